@@ -1,0 +1,3 @@
+// The wire engine: a part of any kind on two wires.
+pub mod board;
+pub mod bus;

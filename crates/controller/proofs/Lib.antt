@@ -1,0 +1,4 @@
+pub mod Gives
+pub mod Receives
+pub mod Runs
+pub mod Sends

@@ -1,0 +1,4 @@
+pub mod Fields
+pub mod Jobs
+pub mod Offsets
+pub mod Said

@@ -1,0 +1,3 @@
+// Rows: lists that a caller lends, filled from the front. Every record type shares this one code.
+pub mod keyed;
+pub mod row;
