@@ -25,7 +25,12 @@ fn pulls(phase: Phase) -> bool
     match phase {
         Phase::AckPulled { next: _ } => true,
         Phase::AckRisen { next: _ } => true,
-        Phase::Giving { address: _, rises: _, rest: _, bit } => !bit,
+        Phase::Giving {
+            address: _,
+            rises: _,
+            rest: _,
+            bit,
+        } => !bit,
         _ => false,
     }
 }
@@ -34,11 +39,20 @@ fn clean(phase: Phase) -> bool
     ensures { λ r. ⌜ r ≡ clean phase ⌝ }
 {
     match phase {
-        Phase::Taking { kind, bits, byte: _ } => match kind {
+        Phase::Taking {
+            kind,
+            bits,
+            byte: _,
+        } => match kind {
             Kind::Address => false,
             _ => bits == 1,
         },
-        Phase::Giving { address: _, rises, rest: _, bit: _ } => rises == 1,
+        Phase::Giving {
+            address: _,
+            rises,
+            rest: _,
+            bit: _,
+        } => rises == 1,
         _ => false,
     }
 }
@@ -175,12 +189,26 @@ impl<P: Part> Board<P> {
             Phase::AckPulled { next } => {
                 self.bus.phase = Phase::AckRisen { next };
             }
-            Phase::Giving { address, rises, rest, bit } => {
+            Phase::Giving {
+                address,
+                rises,
+                rest,
+                bit,
+            } => {
                 let rises = if rises < 8 { rises + 1 } else { rises };
-                self.bus.phase = Phase::Giving { address, rises, rest, bit };
+                self.bus.phase = Phase::Giving {
+                    address,
+                    rises,
+                    rest,
+                    bit,
+                };
             }
             Phase::Released { address } => {
-                self.bus.phase = if bit { Phase::Deaf } else { Phase::Wanted { address } };
+                self.bus.phase = if bit {
+                    Phase::Deaf
+                } else {
+                    Phase::Wanted { address }
+                };
             }
             // No rise comes here: a fall lies before it.
             _ => {
@@ -196,13 +224,27 @@ impl<P: Part> Board<P> {
         let (acked, next) = match kind {
             Kind::Address => {
                 let acked = self.part.address(byte);
-                let next = if byte % 2 == 1 { Next::ThenGiven { address: byte } } else { Next::ThenFirst { address: byte } };
+                let next = if byte % 2 == 1 {
+                    Next::ThenGiven { address: byte }
+                } else {
+                    Next::ThenFirst { address: byte }
+                };
                 (acked, next)
             }
-            Kind::First { address } => (self.part.aim(address, levels, byte), Next::ThenLater { address }),
-            Kind::Later { address } => (self.part.take(address, levels, byte), Next::ThenLater { address }),
+            Kind::First { address } => (
+                self.part.aim(address, levels, byte),
+                Next::ThenLater { address },
+            ),
+            Kind::Later { address } => (
+                self.part.take(address, levels, byte),
+                Next::ThenLater { address },
+            ),
         };
-        self.bus.phase = if acked { Phase::AckDue { next } } else { Phase::Deaf };
+        self.bus.phase = if acked {
+            Phase::AckDue { next }
+        } else {
+            Phase::Deaf
+        };
     }
 
     fn fall(&mut self)
@@ -213,11 +255,21 @@ impl<P: Part> Board<P> {
                 self.bus.phase = Phase::AckPulled { next };
             }
             Phase::AckRisen { next } => self.go_on(next),
-            Phase::Giving { address, rises, rest, bit: _ } => {
+            Phase::Giving {
+                address,
+                rises,
+                rest,
+                bit: _,
+            } => {
                 self.bus.phase = if rises < 8 {
                     let bit = rest >= 128;
                     let rest = rest % 128 * 2;
-                    Phase::Giving { address, rises, rest, bit }
+                    Phase::Giving {
+                        address,
+                        rises,
+                        rest,
+                        bit,
+                    }
                 } else {
                     Phase::Released { address }
                 };
@@ -234,11 +286,19 @@ impl<P: Part> Board<P> {
         match next {
             Next::ThenFirst { address } => {
                 let kind = Kind::First { address };
-                self.bus.phase = Phase::Taking { kind, bits: 0, byte: 0 };
+                self.bus.phase = Phase::Taking {
+                    kind,
+                    bits: 0,
+                    byte: 0,
+                };
             }
             Next::ThenLater { address } => {
                 let kind = Kind::Later { address };
-                self.bus.phase = Phase::Taking { kind, bits: 0, byte: 0 };
+                self.bus.phase = Phase::Taking {
+                    kind,
+                    bits: 0,
+                    byte: 0,
+                };
             }
             Next::ThenGiven { address } => self.fetch(address),
         }

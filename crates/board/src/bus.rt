@@ -24,19 +24,38 @@ pub enum Phase {
     // In a transfer, and no byte is taken or given until START.
     Deaf,
     // The master sends a byte: `bits` of it have come, and make up `byte`.
-    Taking { kind: Kind, bits: u8, byte: u8 },
+    Taking {
+        kind: Kind,
+        bits: u8,
+        byte: u8,
+    },
     // The byte is whole and acknowledged: the pull begins at the next fall.
-    AckDue { next: Next },
+    AckDue {
+        next: Next,
+    },
     // The ACK is pulled, and the ninth rise is to come.
-    AckPulled { next: Next },
+    AckPulled {
+        next: Next,
+    },
     // The ninth rise has come: the pull lasts until the next fall.
-    AckRisen { next: Next },
+    AckRisen {
+        next: Next,
+    },
     // A part gives a byte: `rises` have come, `bit` is on the wire, and `rest` holds the bits after it, highest first.
-    Giving { address: u8, rises: u8, rest: u8, bit: bool },
+    Giving {
+        address: u8,
+        rises: u8,
+        rest: u8,
+        bit: bool,
+    },
     // SDA is released for the master's ninth bit.
-    Released { address: u8 },
+    Released {
+        address: u8,
+    },
     // The ninth bit was LOW: the next byte is fetched at the next fall.
-    Wanted { address: u8 },
+    Wanted {
+        address: u8,
+    },
 }
 
 // The levels of the two wires in the last sample, SDA as it was on the wire, and the phase.

@@ -16,7 +16,10 @@ impl Drop for WpGuard<'_> {
         ensures v3ro { λ _. ⌜ now (self .exit .0) .v3ro ≡ now (self .entry .lines) .v3ro ⌝ }
     {
         self.lines.wp = self.before;
-        let WpGuard { lines: _, before: _ } = self;
+        let WpGuard {
+            lines: _,
+            before: _,
+        } = self;
     }
 }
 

@@ -13,7 +13,10 @@ impl Drop for Busy {
     fn drop(self)
         requires { ⌜ self .spent ≡ true ⌝ }
     {
-        let Busy { address: _, spent: _ } = self;
+        let Busy {
+            address: _,
+            spent: _,
+        } = self;
     }
 }
 
@@ -21,7 +24,10 @@ impl Busy {
     pub(super) fn new(address: u8) -> Busy
         ensures { λ r. ⌜ r ≡ noted address ⌝ }
     {
-        Busy { address, spent: false }
+        Busy {
+            address,
+            spent: false,
+        }
     }
 
     // The address written.

@@ -21,7 +21,13 @@ use refusals::Refusal;
 use rows::row::Row;
 
 // Receives bytes into the row, each with an ACK but the last.
-fn receive_all<P: Part>(reading: Reading, board: &mut Board<P>, levels: &Levels, count: u8, row: &mut Row<'_, u8>) -> Reading
+fn receive_all<P: Part>(
+    reading: Reading,
+    board: &mut Board<P>,
+    levels: &Levels,
+    count: u8,
+    row: &mut Row<'_, u8>,
+) -> Reading
     requires { ⌜ now row .count + count ≤ length (items-of (now row)) ⌝ }
     ensures run { λ _. ⌜ ((got : List ℕ) × (length got ≡ count) × Grown (now (row .entry)) got (now (row .exit)) × (run (P·Part .ops) (receive-all (now (levels .entry)) count []) (now (board .entry)) ≡ (now (board .exit), ok got))) ⌝ }
     ensures lender { λ _. ⌜ name (now (row .exit) .items) ≡ name (now (row .entry) .items) ⌝ }
@@ -36,7 +42,12 @@ fn receive_all<P: Part>(reading: Reading, board: &mut Board<P>, levels: &Levels,
 }
 
 // Appends the bytes read to the row. A refusal leaves the row as it was, and one for want of room gives no sample.
-pub fn read<P: Part>(board: &mut Board<P>, lines: &Levels, job: &Read<'_>, row: &mut Row<'_, u8>) -> Result<(), Refusal>
+pub fn read<P: Part>(
+    board: &mut Board<P>,
+    lines: &Levels,
+    job: &Read<'_>,
+    row: &mut Row<'_, u8>,
+) -> Result<(), Refusal>
     ensures run { λ r. ⌜ Into (run (P·Part .ops) (master-of (now (lines .entry)) (room-of (now (row .entry))) (shown-read (now (job .entry)))) (now (board .entry))) (now (board .exit)) (now (row .entry)) (now (row .exit)) (told (λ x. x) r) ⌝ }
     ensures count { λ _. ⌜ Lasts (max 1 (now (job .entry) .count)) (run (P·Part .ops) (master-of (now (lines .entry)) (room-of (now (row .entry))) (shown-read (now (job .entry)))) (now (board .entry)) .1) ⌝ }
     ensures lender { λ _. ⌜ name (now (row .exit) .items) ≡ name (now (row .entry) .items) ⌝ }

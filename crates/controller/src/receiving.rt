@@ -13,7 +13,12 @@ use part::levels::Levels;
 use refusals::Refusal;
 
 // A transfer whose read address got no ACK is ended with a STOP.
-fn stop_refused<P: Part>(reading: Reading, result: Result<(), Refusal>, board: &mut Board<P>, levels: &Levels) -> Result<Reading, Refusal>
+fn stop_refused<P: Part>(
+    reading: Reading,
+    result: Result<(), Refusal>,
+    board: &mut Board<P>,
+    levels: &Levels,
+) -> Result<Reading, Refusal>
     ensures { λ r. ⌜ run (P·Part .ops) (stop-refused (now (levels .entry)) (told (λ _. []) result)) (now (board .entry)) ≡ (now (board .exit), told (λ _. []) r) ⌝ }
 {
     match result {
@@ -26,7 +31,12 @@ fn stop_refused<P: Part>(reading: Reading, result: Result<(), Refusal>, board: &
 }
 
 // Opens a transfer for reading, after a write of the aim bytes if there are some. Where an ACK is missing it gives the STOP.
-pub(super) fn open_read<P: Part>(board: &mut Board<P>, levels: &Levels, address: u8, aim: &[u8]) -> Result<Reading, Refusal>
+pub(super) fn open_read<P: Part>(
+    board: &mut Board<P>,
+    levels: &Levels,
+    address: u8,
+    aim: &[u8],
+) -> Result<Reading, Refusal>
     ensures { λ r. ⌜ run (P·Part .ops) (end-refused (now (levels .entry)) (addressing (now (levels .entry)) address (now (aim .entry)))) (now (board .entry)) ≡ (now (board .exit), told (λ _. []) r) ⌝ }
 {
     if aim.len() == 0 {

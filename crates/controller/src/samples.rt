@@ -53,7 +53,11 @@ fn give_all<P: Part>(board: &mut Board<P>, samples: &[u8], row: &mut Row<'_, u8>
 }
 
 // Appends the level that each sample answered to the row, 1 for HIGH. A refusal gives no sample and leaves the row as it was.
-pub fn samples<P: Part>(board: &mut Board<P>, job: &Samples<'_>, row: &mut Row<'_, u8>) -> Result<(), Refusal>
+pub fn samples<P: Part>(
+    board: &mut Board<P>,
+    job: &Samples<'_>,
+    row: &mut Row<'_, u8>,
+) -> Result<(), Refusal>
     ensures run { λ r. ⌜ Into (run (P·Part .ops) (sampling (take 255 (now (now (job .entry) .bytes))) (room-of (now (row .entry)))) (now (board .entry))) (now (board .exit)) (now (row .entry)) (now (row .exit)) (told (λ x. x) r) ⌝ }
     ensures count { λ _. ⌜ Lasts (length (take 255 (now (now (job .entry) .bytes)))) (run (P·Part .ops) (sampling (take 255 (now (now (job .entry) .bytes))) (room-of (now (row .entry)))) (now (board .entry)) .1) ⌝ }
     ensures lender { λ _. ⌜ name (now (row .exit) .items) ≡ name (now (row .entry) .items) ⌝ }

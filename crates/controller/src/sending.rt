@@ -15,7 +15,12 @@ use part::levels::Levels;
 use refusals::Refusal;
 
 // Sends bytes up to the first that gets no ACK.
-fn send_all<P: Part>(writing: Writing, board: &mut Board<P>, levels: &Levels, bytes: &[u8]) -> (Writing, Result<(), Refusal>)
+fn send_all<P: Part>(
+    writing: Writing,
+    board: &mut Board<P>,
+    levels: &Levels,
+    bytes: &[u8],
+) -> (Writing, Result<(), Refusal>)
     requires { ⌜ writing .sent + length (now bytes) < 2 ^ 64 ⌝ }
     ensures run { λ r. ⌜ run (P·Part .ops) (send-all (now (levels .entry)) (writing .sent) (now (bytes .entry))) (now (board .entry)) ≡ (now (board .exit), told (λ _. []) (r .1)) ⌝ }
     ensures count { λ r. ⌜ Sent (writing .sent + length (now (bytes .entry))) (r .0 .sent) (r .1) ⌝ }
@@ -33,7 +38,12 @@ fn send_all<P: Part>(writing: Writing, board: &mut Board<P>, levels: &Levels, by
 }
 
 // Opens a transfer for writing and sends the bytes.
-pub(super) fn open_write<P: Part>(board: &mut Board<P>, levels: &Levels, address: u8, bytes: &[u8]) -> (Writing, Result<(), Refusal>)
+pub(super) fn open_write<P: Part>(
+    board: &mut Board<P>,
+    levels: &Levels,
+    address: u8,
+    bytes: &[u8],
+) -> (Writing, Result<(), Refusal>)
     ensures run { λ r. ⌜ run (P·Part .ops) (sending (now (levels .entry)) address (now (bytes .entry))) (now (board .entry)) ≡ (now (board .exit), told (λ _. []) (r .1)) ⌝ }
     ensures count { λ r. ⌜ Sent (1 + length (now (bytes .entry))) (r .0 .sent) (r .1) ⌝ }
 {
@@ -45,7 +55,12 @@ pub(super) fn open_write<P: Part>(board: &mut Board<P>, levels: &Levels, address
 }
 
 // A whole write transfer at the levels given.
-pub(super) fn write_at<P: Part>(board: &mut Board<P>, levels: &Levels, address: u8, bytes: &[u8]) -> Result<(), Refusal>
+pub(super) fn write_at<P: Part>(
+    board: &mut Board<P>,
+    levels: &Levels,
+    address: u8,
+    bytes: &[u8],
+) -> Result<(), Refusal>
     ensures { λ r. ⌜ run (P·Part .ops) (writing (now (levels .entry)) address (now (bytes .entry))) (now (board .entry)) ≡ (now (board .exit), told (λ _. []) r) ⌝ }
 {
     let (writing, result) = open_write(board, levels, address, bytes);

@@ -26,7 +26,12 @@ pub struct Reading {
 }
 
 // Sends byte number `sent` of a job.
-fn send_one<P: Part>(sent: usize, board: &mut Board<P>, levels: &Levels, byte: u8) -> Result<(), Refusal>
+fn send_one<P: Part>(
+    sent: usize,
+    board: &mut Board<P>,
+    levels: &Levels,
+    byte: u8,
+) -> Result<(), Refusal>
     ensures { λ r. ⌜ run (P·Part .ops) (send-one (now (levels .entry)) sent byte) (now (board .entry)) ≡ (now (board .exit), told (λ _. []) r) ⌝ }
 {
     if wires::send(board, levels, byte) {
@@ -36,7 +41,12 @@ fn send_one<P: Part>(sent: usize, board: &mut Board<P>, levels: &Levels, byte: u
     }
 }
 
-fn open_with<P: Part>(sent: usize, board: &mut Board<P>, levels: &Levels, byte: u8) -> Result<(), Refusal>
+fn open_with<P: Part>(
+    sent: usize,
+    board: &mut Board<P>,
+    levels: &Levels,
+    byte: u8,
+) -> Result<(), Refusal>
     ensures { λ r. ⌜ run (P·Part .ops) (open-with (now (levels .entry)) sent byte) (now (board .entry)) ≡ (now (board .exit), told (λ _. []) r) ⌝ }
 {
     wires::start(board, levels);
@@ -51,7 +61,12 @@ impl Quiet {
     }
 
     // START and the write address.
-    pub fn write<P: Part>(self, board: &mut Board<P>, levels: &Levels, address: u8) -> (Writing, Result<(), Refusal>)
+    pub fn write<P: Part>(
+        self,
+        board: &mut Board<P>,
+        levels: &Levels,
+        address: u8,
+    ) -> (Writing, Result<(), Refusal>)
         ensures run { λ r. ⌜ run (P·Part .ops) (open-with (now (levels .entry)) (self .sent) (write-byte address)) (now (board .entry)) ≡ (now (board .exit), told (λ _. []) (r .1)) ⌝ }
         ensures count { λ r. ⌜ r .0 .sent ≡ counted (self .sent) ⌝ }
     {
@@ -62,7 +77,12 @@ impl Quiet {
     }
 
     // START and the read address.
-    pub fn read<P: Part>(self, board: &mut Board<P>, levels: &Levels, address: u8) -> (Reading, Result<(), Refusal>)
+    pub fn read<P: Part>(
+        self,
+        board: &mut Board<P>,
+        levels: &Levels,
+        address: u8,
+    ) -> (Reading, Result<(), Refusal>)
         ensures run { λ r. ⌜ run (P·Part .ops) (open-with (now (levels .entry)) (self .sent) (read-byte address)) (now (board .entry)) ≡ (now (board .exit), told (λ _. []) (r .1)) ⌝ }
         ensures count { λ r. ⌜ r .0 .sent ≡ counted (self .sent) ⌝ }
     {
@@ -82,7 +102,12 @@ impl Quiet {
 }
 
 impl Writing {
-    pub fn send<P: Part>(self, board: &mut Board<P>, levels: &Levels, byte: u8) -> (Writing, Result<(), Refusal>)
+    pub fn send<P: Part>(
+        self,
+        board: &mut Board<P>,
+        levels: &Levels,
+        byte: u8,
+    ) -> (Writing, Result<(), Refusal>)
         ensures run { λ r. ⌜ run (P·Part .ops) (send-one (now (levels .entry)) (self .sent) byte) (now (board .entry)) ≡ (now (board .exit), told (λ _. []) (r .1)) ⌝ }
         ensures count { λ r. ⌜ r .0 .sent ≡ counted (self .sent) ⌝ }
     {
@@ -93,7 +118,12 @@ impl Writing {
     }
 
     // A repeated START and the read address.
-    pub fn read<P: Part>(self, board: &mut Board<P>, levels: &Levels, address: u8) -> (Reading, Result<(), Refusal>)
+    pub fn read<P: Part>(
+        self,
+        board: &mut Board<P>,
+        levels: &Levels,
+        address: u8,
+    ) -> (Reading, Result<(), Refusal>)
         ensures run { λ r. ⌜ run (P·Part .ops) (open-with (now (levels .entry)) (self .sent) (read-byte address)) (now (board .entry)) ≡ (now (board .exit), told (λ _. []) (r .1)) ⌝ }
         ensures count { λ r. ⌜ r .0 .sent ≡ counted (self .sent) ⌝ }
     {
@@ -115,7 +145,12 @@ impl Writing {
 
 impl Reading {
     // A byte, with an ACK where more is wanted.
-    pub fn receive<P: Part>(self, board: &mut Board<P>, levels: &Levels, more: bool) -> (Reading, u8)
+    pub fn receive<P: Part>(
+        self,
+        board: &mut Board<P>,
+        levels: &Levels,
+        more: bool,
+    ) -> (Reading, u8)
         ensures run { λ r. ⌜ run (P·Part .ops) (receive (now (levels .entry)) more) (now (board .entry)) ≡ (now (board .exit), r .1) ⌝ }
         ensures count { λ r. ⌜ r .0 .sent ≡ self .sent ⌝ }
     {

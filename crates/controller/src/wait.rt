@@ -17,7 +17,12 @@ use part::levels::Levels;
 use refusals::Refusal;
 
 // Polls until one gets an ACK, which spends the note on that address; any other note is handed back.
-pub fn wait<P: Part>(board: &mut Board<P>, lines: &mut Levels, job: &Wait, note: Option<Busy>) -> (Option<Busy>, Result<(), Refusal>)
+pub fn wait<P: Part>(
+    board: &mut Board<P>,
+    lines: &mut Levels,
+    job: &Wait,
+    note: Option<Busy>,
+) -> (Option<Busy>, Result<(), Refusal>)
     ensures run { λ r. ⌜ run (P·Part .ops) (master-of (now (lines .entry)) 0 (shown-wait (now (job .entry)))) (now (board .entry)) ≡ (now (board .exit), told (λ _. []) (r .1)) ⌝ }
     ensures lines { λ _. ⌜ now (lines .exit) ≡ now (lines .entry) ⌝ }
     ensures note { λ r. ⌜ r .0 ≡ after-wait (now (job .entry) .address % 128) (told (λ _. []) (r .1)) note ⌝ }

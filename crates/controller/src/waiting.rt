@@ -12,7 +12,12 @@ use part::levels::Levels;
 use refusals::Refusal;
 
 // A write with WP LOW, after which WP stands as before.
-pub(super) fn write_low<P: Part>(board: &mut Board<P>, lines: &mut Levels, address: u8, bytes: &[u8]) -> Result<(), Refusal>
+pub(super) fn write_low<P: Part>(
+    board: &mut Board<P>,
+    lines: &mut Levels,
+    address: u8,
+    bytes: &[u8],
+) -> Result<(), Refusal>
     ensures run { λ r. ⌜ run (P·Part .ops) (writing (lowered (now (lines .entry))) address (now (bytes .entry))) (now (board .entry)) ≡ (now (board .exit), told (λ _. []) r) ⌝ }
     ensures lines { λ _. ⌜ now (lines .exit) ≡ now (lines .entry) ⌝ }
 {
@@ -20,7 +25,12 @@ pub(super) fn write_low<P: Part>(board: &mut Board<P>, lines: &mut Levels, addre
     write_at(board, guard.levels(), address, bytes)
 }
 
-pub(super) fn poll<P: Part>(board: &mut Board<P>, lines: &mut Levels, address: u8, polls: u16) -> Result<(), Refusal>
+pub(super) fn poll<P: Part>(
+    board: &mut Board<P>,
+    lines: &mut Levels,
+    address: u8,
+    polls: u16,
+) -> Result<(), Refusal>
     ensures run { λ r. ⌜ run (P·Part .ops) (waiting (lowered (now (lines .entry))) address polls) (now (board .entry)) ≡ (now (board .exit), told (λ _. []) r) ⌝ }
     ensures lines { λ _. ⌜ now (lines .exit) ≡ now (lines .entry) ⌝ }
 {

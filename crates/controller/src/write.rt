@@ -16,7 +16,11 @@ use part::levels::Levels;
 use refusals::Refusal;
 
 // An accepted write gives a note that its part may be busy. WP is LOW in the transfer and stands as before at the end.
-pub fn write<P: Part>(board: &mut Board<P>, lines: &mut Levels, job: &Write<'_>) -> Result<Busy, Refusal>
+pub fn write<P: Part>(
+    board: &mut Board<P>,
+    lines: &mut Levels,
+    job: &Write<'_>,
+) -> Result<Busy, Refusal>
     ensures run { λ r. ⌜ run (P·Part .ops) (master-of (now (lines .entry)) 0 (shown-write (now (job .entry)))) (now (board .entry)) ≡ (now (board .exit), told (λ _. []) r) ⌝ }
     ensures lines { λ _. ⌜ now (lines .exit) ≡ now (lines .entry) ⌝ }
     ensures note { λ r. ⌜ Noted (now (job .entry) .address % 128) r ⌝ }

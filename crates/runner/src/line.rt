@@ -18,7 +18,11 @@ fn hex_digit(n: u8) -> char
     requires { ⌜ n < 16 ⌝ }
     ensures { λ r. ⌜ r ≡ hex-digit n ⌝ }
 {
-    if n < 10 { (b'0' + n) as char } else { (b'a' + (n - 10)) as char }
+    if n < 10 {
+        (b'0' + n) as char
+    } else {
+        (b'a' + (n - 10)) as char
+    }
 }
 
 fn push_digit(text: &mut String, n: u8) -> Result<(), AllocError>
@@ -47,7 +51,11 @@ fn part(bytes: &[u8], from: usize, count: usize) -> &[u8]
         return &bytes[0..0];
     }
     let rest = &bytes[from..];
-    if count < rest.len() { &rest[0..count] } else { rest }
+    if count < rest.len() {
+        &rest[0..count]
+    } else {
+        rest
+    }
 }
 
 fn done_line(heap: Global, number: usize, bytes: &[u8]) -> Result<String, AllocError>

@@ -29,7 +29,10 @@ pub fn room_for(file: &[u8]) -> Room
     ensures results { λ r. ⌜ r .results ≡ length (file-jobs (now (file .entry))) ⌝ }
     ensures bytes { λ r. ⌜ r .bytes ≡ min (all-answers (file-jobs (now (file .entry)))) (2 ^ 64 - 1) ⌝ }
 {
-    let mut room = Room { results: 0, bytes: 0 };
+    let mut room = Room {
+        results: 0,
+        bytes: 0,
+    };
     let mut at = 0;
     for _n in 0..file.len() {
         if at >= file.len() {

@@ -33,7 +33,12 @@ use refusals::Refusal;
 use rows::row::Row;
 
 // The note of an accepted write takes the place of an earlier one, which is given up.
-fn run_write<P: Part>(board: &mut Board<P>, lines: &mut Levels, job: &Write<'_>, note: Option<Busy>) -> (Option<Busy>, Result<(), Refusal>)
+fn run_write<P: Part>(
+    board: &mut Board<P>,
+    lines: &mut Levels,
+    job: &Write<'_>,
+    note: Option<Busy>,
+) -> (Option<Busy>, Result<(), Refusal>)
     ensures run { λ r. ⌜ run (P·Part .ops) (master-of (now (lines .entry)) 0 (shown-write (now (job .entry)))) (now (board .entry)) ≡ (now (board .exit), told (λ _. []) (r .1)) ⌝ }
     ensures lines { λ _. ⌜ now (lines .exit) ≡ now (lines .entry) ⌝ }
 {
@@ -49,7 +54,13 @@ fn run_write<P: Part>(board: &mut Board<P>, lines: &mut Levels, job: &Write<'_>,
 }
 
 // Runs a job whose bytes find room in the list.
-fn run_job<P: Part>(board: &mut Board<P>, lines: &mut Levels, job: &Job<'_>, note: Option<Busy>, bytes: &mut Row<'_, u8>) -> (Option<Busy>, Result<(), Refusal>)
+fn run_job<P: Part>(
+    board: &mut Board<P>,
+    lines: &mut Levels,
+    job: &Job<'_>,
+    note: Option<Busy>,
+    bytes: &mut Row<'_, u8>,
+) -> (Option<Busy>, Result<(), Refusal>)
     requires { ⌜ answers (said (now job)) ≤ room-of (now bytes) ⌝ }
     ensures run { λ r. ⌜ Into (job-run (P·Part .ops) (now (lines .entry)) (said (now (job .entry))) (now (board .entry))) (now (board .exit)) (now (bytes .entry)) (now (bytes .exit)) (told (λ x. x) (r .1)) ⌝ }
     ensures within { λ _. ⌜ Within (answers (said (now (job .entry)))) (job-run (P·Part .ops) (now (lines .entry)) (said (now (job .entry))) (now (board .entry)) .1) ⌝ }
@@ -71,8 +82,14 @@ fn outcome(answer: Result<(), Refusal>, from: usize, to: usize) -> Outcome
     ensures { λ r. ⌜ seen r ≡ seen-between from to (told (λ x. x) answer) ⌝ }
 {
     match answer {
-        Ok(()) => Outcome::Done { from, count: to - from },
-        Err(refusal) => Outcome::Refused { refusal, place: refusal.place() },
+        Ok(()) => Outcome::Done {
+            from,
+            count: to - from,
+        },
+        Err(refusal) => Outcome::Refused {
+            refusal,
+            place: refusal.place(),
+        },
     }
 }
 
@@ -116,7 +133,13 @@ fn run_next<P: Part>(
 }
 
 // Runs the jobs of a file whose results and bytes find room.
-fn run_jobs<P: Part>(board: &mut Board<P>, lines: &mut Levels, file: &[u8], results: &mut Row<'_, JobResult>, bytes: &mut Row<'_, u8>)
+fn run_jobs<P: Part>(
+    board: &mut Board<P>,
+    lines: &mut Levels,
+    file: &[u8],
+    results: &mut Row<'_, JobResult>,
+    bytes: &mut Row<'_, u8>,
+)
     requires results { ⌜ now results .count + length (file-jobs (now file)) ≤ length (items-of (now results)) ⌝ }
     requires bytes { ⌜ now bytes .count + all-answers (file-jobs (now file)) ≤ length (items-of (now bytes)) ⌝ }
     ensures board { λ _. ⌜ now (board .exit) ≡ ran (P·Part .ops) (now (lines .entry)) (file-jobs (now (file .entry))) (now (board .entry)) .0 ⌝ }
@@ -141,7 +164,13 @@ fn run_jobs<P: Part>(board: &mut Board<P>, lines: &mut Levels, file: &[u8], resu
 
 // Runs a whole job file. Its results are appended to the row and the answered bytes to the byte list; where either is too short
 // for all of them nothing is run.
-pub fn run_file<P: Part>(board: &mut Board<P>, lines: &mut Levels, file: &[u8], results: &mut Row<'_, JobResult>, bytes: &mut Row<'_, u8>) -> Result<(), Refusal>
+pub fn run_file<P: Part>(
+    board: &mut Board<P>,
+    lines: &mut Levels,
+    file: &[u8],
+    results: &mut Row<'_, JobResult>,
+    bytes: &mut Row<'_, u8>,
+) -> Result<(), Refusal>
     ensures run { λ r. ⌜ FileRun (fits (file-jobs (now (file .entry))) (now (results .entry)) (now (bytes .entry))) (ran (P·Part .ops) (now (lines .entry)) (file-jobs (now (file .entry))) (now (board .entry))) (now (board .entry)) (now (board .exit)) (now (results .entry)) (now (results .exit)) (now (bytes .entry)) (now (bytes .exit)) (told (λ x. x) r) ⌝ }
     ensures lines { λ _. ⌜ now (lines .exit) ≡ now (lines .entry) ⌝ }
     ensures results_lender { λ _. ⌜ name (now (results .exit) .items) ≡ name (now (results .entry) .items) ⌝ }

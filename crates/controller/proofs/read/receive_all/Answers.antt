@@ -23,12 +23,13 @@ loop-n-again g c =
     let got : List ℕ = c .loop-n .inv .0 in
     let grown = c .loop-n .inv .2 in
     let same = length-grown (c .args .row .now) (c .loop-n .row) got grown in
-    let room : c .loop-n .row .count < length (items-of (c .loop-n .row)) = omega (arith, same, grown .count, c .loop-n .inv .1, c .pre) in
-    (got ++ (c .receive-byte .result .1 ∷ []),
-    length-push got (c .receive-byte .result .1) ∙ ap (λ n. n + 1) (c .loop-n .inv .1),
-    grown-more (c .args .row .now) (c .loop-n .row) (c .append .last .self) got _ grown (lt-ltb _ _ room) (c .append .ensures .count) (c .append .ensures .items),
-    c .append .ensures .lender ∙ c .loop-n .inv .3,
-    received-more (g .P·Part .ops) (c .args .levels .now) (c .loop-n .n) (c .args .count) _ got (c .loop-n .board) _ (c .loop-n-test .taken) (c .receive-byte .ensures .run) (c .loop-n .inv .4))
+    let room : c .loop-n .row .count < length (items-of (c .loop-n .row)) = omega (arith, same, grown .count, c .loop-n .inv .1, c .pre) in (
+      got ++ (c .receive-byte .result .1 ∷ []),
+      length-push got (c .receive-byte .result .1) ∙ ap (λ n. n + 1) (c .loop-n .inv .1),
+      grown-more (c .args .row .now) (c .loop-n .row) (c .append .last .self) got _ grown (lt-ltb _ _ room) (c .append .ensures .count) (c .append .ensures .items),
+      c .append .ensures .lender ∙ c .loop-n .inv .3,
+      received-more (g .P·Part .ops) (c .args .levels .now) (c .loop-n .n) (c .args .count) _ got (c .loop-n .board) _ (c .loop-n-test .taken) (c .receive-byte .ensures .run) (c .loop-n .inv .4),
+    )
 
 pub returns : need.returns
 returns g c =

@@ -23,13 +23,14 @@ loop-sample-again g c =
     let grown = c .loop-sample .inv .2 in
     let same = length-grown (c .args .row .now) (c .loop-sample .row) got grown in
     let room : c .loop-sample .row .count < length (items-of (c .loop-sample .row)) = omega (arith, same, grown .count, c .loop-sample .inv .1, c .pre .1) in
-    let small = good-next (c .args .samples .now) (c .loop-sample .sample-index) (c .loop-sample-test .taken) (c .loop-sample .inv .4) in
-    (got ++ (boolByte (c .give-level .result) ∷ []),
-    length-push got (boolByte (c .give-level .result)) ∙ ap (λ n. n + 1) (c .loop-sample .inv .1),
-    grown-more (c .args .row .now) (c .loop-sample .row) (c .append .last .self) got _ grown (lt-ltb _ _ room) (c .append .ensures .count) (c .append .ensures .items),
-    c .append .ensures .lender ∙ c .loop-sample .inv .3,
-    good-more (c .args .samples .now) (c .loop-sample .sample-index) (c .loop-sample-test .taken) small (c .loop-sample .inv .4),
-    given-more (g .P·Part .ops) (c .args .samples .now) (c .loop-sample .sample-index) got (c .give-level .result) (c .loop-sample .board) _ (c .loop-sample-test .taken) (c .give-level .ensures) (c .loop-sample .inv .5))
+    let small = good-next (c .args .samples .now) (c .loop-sample .sample-index) (c .loop-sample-test .taken) (c .loop-sample .inv .4) in (
+      got ++ (boolByte (c .give-level .result) ∷ []),
+      length-push got (boolByte (c .give-level .result)) ∙ ap (λ n. n + 1) (c .loop-sample .inv .1),
+      grown-more (c .args .row .now) (c .loop-sample .row) (c .append .last .self) got _ grown (lt-ltb _ _ room) (c .append .ensures .count) (c .append .ensures .items),
+      c .append .ensures .lender ∙ c .loop-sample .inv .3,
+      good-more (c .args .samples .now) (c .loop-sample .sample-index) (c .loop-sample-test .taken) small (c .loop-sample .inv .4),
+      given-more (g .P·Part .ops) (c .args .samples .now) (c .loop-sample .sample-index) got (c .give-level .result) (c .loop-sample .board) _ (c .loop-sample-test .taken) (c .give-level .ensures) (c .loop-sample .inv .5),
+    )
 
 pub returns : need.returns
 returns g c =

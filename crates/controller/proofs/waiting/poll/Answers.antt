@@ -15,9 +15,10 @@ returns-in-Ok g c =
 
 pub loop-n-again : need.loop-n-again
 loop-n-again g c =
-    let same = ap (λ l. run (g .P·Part .ops) (writing (lowered l) (c .args .address) []) (c .loop-n .board)) (sym (c .loop-n .inv .0)) in
-    (c .in-Err .ensures tt .lines ∙ c .loop-n .inv .0,
-    wait-more (g .P·Part .ops) (lowered (c .args .lines .now)) (c .args .address) (c .loop-n .-n) (c .args .polls) _ _ (c .loop-n .board) _ (c .loop-n-test .taken) (same ∙ c .in-Err .ensures tt .run) (c .loop-n .inv .1))
+    let same = ap (λ l. run (g .P·Part .ops) (writing (lowered l) (c .args .address) []) (c .loop-n .board)) (sym (c .loop-n .inv .0)) in (
+      c .in-Err .ensures tt .lines ∙ c .loop-n .inv .0,
+      wait-more (g .P·Part .ops) (lowered (c .args .lines .now)) (c .args .address) (c .loop-n .-n) (c .args .polls) _ _ (c .loop-n .board) _ (c .loop-n-test .taken) (same ∙ c .in-Err .ensures tt .run) (c .loop-n .inv .1),
+    )
 
 pub returns : need.returns
 returns g c =

@@ -29,11 +29,12 @@ loop-at-again g c =
     let board = subst (λ l. c .run-next-next .last .board ≡ file-job-run (g .P·Part .ops) l (decoded (job-at (c .args .file .now) (c .loop-at .at))) (c .loop-at .at) (c .loop-at .board) .0) same (ran .board) in
     let results = subst (λ l. Listed (c .loop-at .number + 1) (c .loop-at .bytes .count) (file-job-run (g .P·Part .ops) l (decoded (job-at (c .args .file .now) (c .loop-at .at))) (c .loop-at .at) (c .loop-at .board) .1) (c .loop-at .results) (c .run-next-next .last .results)) same (ran .results) in
     let bytes = subst (λ l. Grown (c .loop-at .bytes) (bytes-of (file-job-run (g .P·Part .ops) l (decoded (job-at (c .args .file .now) (c .loop-at .at))) (c .loop-at .at) (c .loop-at .board) .1)) (c .run-next-next .last .bytes)) same (ran .bytes) in
-    let within = subst (λ l. Within (job-answers (decoded (job-at (c .args .file .now) (c .loop-at .at)))) (file-job-run (g .P·Part .ops) l (decoded (job-at (c .args .file .now) (c .loop-at .at))) (c .loop-at .at) (c .loop-at .board) .1)) same (ran .within) in
-    (so-far-more (g .P·Part .ops) (c .args .lines .now) (c .args .file .now) (c .args .board .now) (c .args .results .now) (c .args .bytes .now) (c .loop-at .number) (c .loop-at .at) (c .loop-at .board) (c .loop-at .results) (c .loop-at .bytes) (c .loop-at .inv .0) (c .run-next-next .result .0) (c .run-next-next .last .board) (c .run-next-next .last .results) (c .run-next-next .last .bytes) (c .loop-at-test .taken) (ran .next) board results bytes within,
-    ran .lines ∙ same,
-    ran .results-lender ∙ c .loop-at .inv .2,
-    ran .bytes-lender ∙ c .loop-at .inv .3)
+    let within = subst (λ l. Within (job-answers (decoded (job-at (c .args .file .now) (c .loop-at .at)))) (file-job-run (g .P·Part .ops) l (decoded (job-at (c .args .file .now) (c .loop-at .at))) (c .loop-at .at) (c .loop-at .board) .1)) same (ran .within) in (
+      so-far-more (g .P·Part .ops) (c .args .lines .now) (c .args .file .now) (c .args .board .now) (c .args .results .now) (c .args .bytes .now) (c .loop-at .number) (c .loop-at .at) (c .loop-at .board) (c .loop-at .results) (c .loop-at .bytes) (c .loop-at .inv .0) (c .run-next-next .result .0) (c .run-next-next .last .board) (c .run-next-next .last .results) (c .run-next-next .last .bytes) (c .loop-at-test .taken) (ran .next) board results bytes within,
+      ran .lines ∙ same,
+      ran .results-lender ∙ c .loop-at .inv .2,
+      ran .bytes-lender ∙ c .loop-at .inv .3,
+    )
 
 pub returns-in-Some : need.returns-in-Some
 returns-in-Some g c =

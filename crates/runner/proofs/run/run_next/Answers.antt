@@ -18,11 +18,11 @@ returns-in-Ok g c =
     let job = c .in-Ok .ensures tt .value in
     let ran = c .run-job-note .ensures .run in
     let places : seen-between (c .len-from .result) (c .len .result) (told (λ x. x) (c .run-job-note .result .1)) ≡ _ =
-        ap (λ n. seen-between n (c .len .result) (told (λ x. x) (c .run-job-note .result .1))) (c .len-from .ensures)
-        ∙ ap (λ n. seen-between (c .args .bytes .now .count) n (told (λ x. x) (c .run-job-note .result .1))) (c .len .ensures)
-        ∙ seen-same (c .args .bytes .now) (c .run-job-note .last .bytes) _ _ (ran .row-is) (ran .answer-is) in
+    ap (λ n. seen-between n (c .len .result) (told (λ x. x) (c .run-job-note .result .1))) (c .len-from .ensures)
+    ∙ ap (λ n. seen-between (c .args .bytes .now .count) n (told (λ x. x) (c .run-job-note .result .1))) (c .len .ensures)
+    ∙ seen-same (c .args .bytes .now) (c .run-job-note .last .bytes) _ _ (ran .row-is) (ran .answer-is) in
     let listed : Listed (c .args .number) (c .args .bytes .now .count) (job-run (g .P·Part .ops) (c .args .lines .now) (said (c .in-Ok .job)) (c .args .board .now) .1) (c .args .results .now) (c .append .last .self) =
-        (record { number = c .args .number; outcome = c .outcome-outcome .result }, one-more (c .args .results .now) _ _ (c .pre .result) (c .append .ensures .count) (c .append .ensures .items), ap (λ s. (c .args .number, s)) (c .outcome-outcome .ensures ∙ places)) in
+    (record { number = c .args .number; outcome = c .outcome-outcome .result }, one-more (c .args .results .now) _ _ (c .pre .result) (c .append .ensures .count) (c .append .ensures .items), ap (λ s. (c .args .number, s)) (c .outcome-outcome .ensures ∙ places)) in
     record {
       board = subst (λ t. c .run-job-note .last .board ≡ file-job-run (g .P·Part .ops) (c .args .lines .now) (decoded t) (c .args .at) (c .args .board .now) .0) job (ran .board-is);
       results = subst (λ t. Listed (c .args .number) (c .args .bytes .now .count) (file-job-run (g .P·Part .ops) (c .args .lines .now) (decoded t) (c .args .at) (c .args .board .now) .1) (c .args .results .now) (c .append .last .self)) job listed;
@@ -39,7 +39,7 @@ returns-in-Err g c =
     let job = c .in-Err .ensures tt .value in
     let r : ℕ = number (c .in-Err .refusal) in
     let listed : Listed (c .args .number) (c .args .bytes .now .count) (refused r (c .args .at)) (c .args .results .now) (c .append-in-Err .last .self) =
-        (_, one-more (c .args .results .now) _ _ (c .pre .result) (c .append-in-Err .ensures .count) (c .append-in-Err .ensures .items), refl) in
+    (_, one-more (c .args .results .now) _ _ (c .pre .result) (c .append-in-Err .ensures .count) (c .append-in-Err .ensures .items), refl) in
     record {
       board = subst (λ t. c .args .board .now ≡ file-job-run (g .P·Part .ops) (c .args .lines .now) (decoded t) (c .args .at) (c .args .board .now) .0) job refl;
       results = subst (λ t. Listed (c .args .number) (c .args .bytes .now .count) (file-job-run (g .P·Part .ops) (c .args .lines .now) (decoded t) (c .args .at) (c .args .board .now) .1) (c .args .results .now) (c .append-in-Err .last .self)) job listed;
