@@ -5,3 +5,5 @@ mod refusals_keep;
 mod stored;
 #[cfg(test)]
 mod tool;
+#[cfg(test)]
+mod whole_file;

@@ -1,13 +1,11 @@
 // What the tests share.
 use board::board::Board;
-use controller::note::Busy;
 use controller::write::write;
 use ds1846::acts::Ds1846Part;
 use ds1846::state::Ds1846;
 use jobfile::write::Write;
 use part::levels::Levels;
 use refusals::Refusal;
-use std::test::*;
 
 pub const ADDRESS: u8 = 0x51;
 
