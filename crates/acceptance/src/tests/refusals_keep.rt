@@ -1,5 +1,8 @@
 // Each refusal, with what it must leave as it stood.
-use super::tool::*;
+use super::ADDRESS;
+use super::busy_board;
+use super::fresh_board;
+use super::quiet_lines;
 use board::board::Board;
 use board::board::BoardDebug;
 use board::board::BoardPartialEq;

@@ -1,5 +1,6 @@
 // What is written is stored at the finish, and the wipers follow.
-use super::tool::*;
+use super::fresh_board;
+use super::written;
 use board::board::Board;
 use ds1846::acts::Ds1846Part;
 use ds1846::state::Ds1846;

@@ -1,5 +1,6 @@
 // A whole file run into rows.
-use super::tool::*;
+use super::busy_board;
+use super::quiet_lines;
 use board::board::Board;
 use board::board::BoardDebug;
 use board::board::BoardPartialEq;
