@@ -25,7 +25,7 @@ fn put<P: Part>(board: &mut Board<P>, levels: &Levels, scl: bool, sda: bool) -> 
     }
 }
 
-pub fn start<P: Part>(board: &mut Board<P>, levels: &Levels) -> bool
+pub(super) fn start<P: Part>(board: &mut Board<P>, levels: &Levels) -> bool
     ensures { λ r. ⌜ run (P·Part .ops) (start (now (levels .entry))) (now (board .entry)) ≡ (now (board .exit), r) ⌝ }
 {
     put(board, levels, false, true);
@@ -34,7 +34,7 @@ pub fn start<P: Part>(board: &mut Board<P>, levels: &Levels) -> bool
     put(board, levels, false, false)
 }
 
-pub fn stop<P: Part>(board: &mut Board<P>, levels: &Levels) -> bool
+pub(super) fn stop<P: Part>(board: &mut Board<P>, levels: &Levels) -> bool
     ensures { λ r. ⌜ run (P·Part .ops) (stop (now (levels .entry))) (now (board .entry)) ≡ (now (board .exit), r) ⌝ }
 {
     put(board, levels, false, false);
@@ -61,7 +61,7 @@ fn read_bit<P: Part>(board: &mut Board<P>, levels: &Levels) -> bool
 }
 
 // Sends a byte, highest bit first; answers whether it got an ACK.
-pub fn send<P: Part>(board: &mut Board<P>, levels: &Levels, byte: u8) -> bool
+pub(super) fn send<P: Part>(board: &mut Board<P>, levels: &Levels, byte: u8) -> bool
     ensures { λ r. ⌜ run (P·Part .ops) (send (now (levels .entry)) byte) (now (board .entry)) ≡ (now (board .exit), r) ⌝ }
 {
     for n in 0..8u8 {
@@ -71,7 +71,7 @@ pub fn send<P: Part>(board: &mut Board<P>, levels: &Levels, byte: u8) -> bool
 }
 
 // Reads a byte, highest bit first, and gives it an ACK where more is wanted.
-pub fn receive<P: Part>(board: &mut Board<P>, levels: &Levels, more: bool) -> u8
+pub(super) fn receive<P: Part>(board: &mut Board<P>, levels: &Levels, more: bool) -> u8
     ensures { λ r. ⌜ run (P·Part .ops) (receive (now (levels .entry)) more) (now (board .entry)) ≡ (now (board .exit), r) ⌝ }
 {
     let mut byte = 0u8;

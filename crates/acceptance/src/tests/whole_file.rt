@@ -1,5 +1,6 @@
 // A whole file run into rows.
 use super::busy_board;
+use super::fresh_board;
 use super::quiet_lines;
 use board::board::Board;
 use board::board::BoardDebug;
@@ -61,4 +62,19 @@ fn a_bad_job_ends_the_run(rt: LibcRuntime) -> Result<(), Fail> {
     check_eq(text.as_str(), "2 ok abcd")?;
     let text = line(rt.alloc(), &list[2], &bytes)?;
     check_eq(text.as_str(), "3 no 7 7")
+}
+
+#[test]
+fn an_unknown_kind_ends_the_run(rt: LibcRuntime) -> Result<(), Fail> {
+    let mut board = fresh_board();
+    let mut lines = quiet_lines();
+    let mut list = [BLANK; 1];
+    let mut none = [0u8; 0];
+    {
+        let mut results = Row::new(&mut list);
+        let mut answered = Row::new(&mut none);
+        run_file(&mut board, &mut lines, &[5, 4], &mut results, &mut answered)?;
+    }
+    let text = line(rt.alloc(), &list[0], &none)?;
+    check_eq(text.as_str(), "1 no 6 0")
 }
