@@ -1,12 +1,13 @@
-// Lists of bytes sent on a transfer that is open for writing.
+// Write transfers.
 ghost use mathlib.Core.Path.{_≡_};
 ghost use mathlib.Core.List.{[]};
 ghost use Prim.Native.Nat.{_+_, _^_, _<_};
 ghost use lib.ListN.{length};
 ghost use Rattle.refusals.specs.Told.{told};
 ghost use Rattle.controller.specs.Master.{run};
-ghost use Rattle.controller.specs.Jobs.{send-all, sending, writing};
+ghost use Rattle.controller.specs.Jobs.{send-all, sending, writing, lowered};
 ghost use Rattle.controller.specs.Transfers.{Sent};
+use super::guard::WpGuard;
 use super::transfer::Quiet;
 use super::transfer::Writing;
 use board::board::Board;
@@ -55,7 +56,7 @@ pub(super) fn open_write<P: Part>(
 }
 
 // A whole write transfer at the levels given.
-pub(super) fn write_at<P: Part>(
+fn write_at<P: Part>(
     board: &mut Board<P>,
     levels: &Levels,
     address: u8,
@@ -66,4 +67,18 @@ pub(super) fn write_at<P: Part>(
     let (writing, result) = open_write(board, levels, address, bytes);
     writing.stop(board, levels).end();
     result
+}
+
+// A write with WP LOW, after which WP stands as before.
+pub(super) fn write_low<P: Part>(
+    board: &mut Board<P>,
+    lines: &mut Levels,
+    address: u8,
+    bytes: &[u8],
+) -> Result<(), Refusal>
+    ensures run { λ r. ⌜ run (P·Part .ops) (writing (lowered (now (lines .entry))) address (now (bytes .entry))) (now (board .entry)) ≡ (now (board .exit), told (λ _. []) r) ⌝ }
+    ensures lines { λ _. ⌜ now (lines .exit) ≡ now (lines .entry) ⌝ }
+{
+    let guard = WpGuard::lower(lines);
+    write_at(board, guard.levels(), address, bytes)
 }

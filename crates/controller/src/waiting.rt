@@ -3,28 +3,14 @@ ghost use mathlib.Core.Path.{_≡_};
 ghost use mathlib.Core.List.{[]};
 ghost use Rattle.refusals.specs.Told.{told};
 ghost use Rattle.controller.specs.Master.{run};
-ghost use Rattle.controller.specs.Jobs.{writing, waiting, lowered};
-use super::guard::WpGuard;
-use super::sending::write_at;
+ghost use Rattle.controller.specs.Jobs.{waiting, lowered};
+use super::sending::write_low;
 use board::board::Board;
 use part::Part;
 use part::levels::Levels;
 use refusals::Refusal;
 
-// A write with WP LOW, after which WP stands as before.
-pub(super) fn write_low<P: Part>(
-    board: &mut Board<P>,
-    lines: &mut Levels,
-    address: u8,
-    bytes: &[u8],
-) -> Result<(), Refusal>
-    ensures run { λ r. ⌜ run (P·Part .ops) (writing (lowered (now (lines .entry))) address (now (bytes .entry))) (now (board .entry)) ≡ (now (board .exit), told (λ _. []) r) ⌝ }
-    ensures lines { λ _. ⌜ now (lines .exit) ≡ now (lines .entry) ⌝ }
-{
-    let guard = WpGuard::lower(lines);
-    write_at(board, guard.levels(), address, bytes)
-}
-
+// Polls until one gets an ACK.
 pub(super) fn poll<P: Part>(
     board: &mut Board<P>,
     lines: &mut Levels,

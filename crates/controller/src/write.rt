@@ -8,7 +8,7 @@ ghost use Rattle.controller.specs.Master.{run};
 ghost use Rattle.controller.specs.Notes.{Noted};
 ghost use Rattle.controller.specs.Said.{master-of};
 use super::note::Busy;
-use super::waiting::write_low;
+use super::sending::write_low;
 use board::board::Board;
 use jobfile::write::Write;
 use part::Part;
