@@ -86,9 +86,9 @@ impl Quiet {
         ensures run { λ r. ⌜ run (P·Part .ops) (open-with (now (levels .entry)) (self .sent) (read-byte address)) (now (board .entry)) ≡ (now (board .exit), told (λ _. []) (r .1)) ⌝ }
         ensures count { λ r. ⌜ r .0 .sent ≡ counted (self .sent) ⌝ }
     {
-        let Quiet { sent } = self;
-        let result = open_with(sent, board, levels, address % 128 * 2 + 1);
-        let sent = sent.saturating_add(1);
+        let Quiet { sent: before } = self;
+        let result = open_with(before, board, levels, address % 128 * 2 + 1);
+        let sent = before.saturating_add(1);
         (Reading { sent }, result)
     }
 
@@ -163,8 +163,8 @@ impl Reading {
         ensures run { λ _. ⌜ run (P·Part .ops) (stop (now (levels .entry))) (now (board .entry)) .0 ≡ now (board .exit) ⌝ }
         ensures count { λ r. ⌜ r .sent ≡ self .sent ⌝ }
     {
-        let Reading { sent } = self;
+        let Reading { sent: asked } = self;
         wires::stop(board, levels);
-        Quiet { sent }
+        Quiet { sent: asked }
     }
 }
