@@ -35,10 +35,10 @@ impl<'a> WpGuard<'a> {
         WpGuard { lines, before }
     }
 
-    // The levels that the guard holds.
-    pub fn levels(&self) -> &Levels
-        ensures { λ r. ⌜ now r ≡ now (now (self .entry) .lines) ⌝ }
+    // The levels of the lines while the guard lives.
+    pub fn levels(&self) -> Levels
+        ensures { λ r. ⌜ r ≡ now (now (self .entry) .lines) ⌝ }
     {
-        self.lines
+        *self.lines
     }
 }

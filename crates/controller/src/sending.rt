@@ -80,5 +80,5 @@ pub(super) fn write_low<P: Part>(
     ensures lines { λ _. ⌜ now (lines .exit) ≡ now (lines .entry) ⌝ }
 {
     let guard = WpGuard::lower(lines);
-    write_at(board, guard.levels(), address, bytes)
+    write_at(board, &guard.levels(), address, bytes)
 }
