@@ -9,6 +9,8 @@ use ds1846::acts::Ds1846Part;
 use ds1846::state::Ds1846;
 use ds1846::state::Ds1846Debug;
 use ds1846::state::Ds1846PartialEq;
+use part::levels::LevelsDebug;
+use part::levels::LevelsPartialEq;
 use refusals::Refusal;
 use refusals::RefusalDebug;
 use refusals::RefusalPartialEq;
@@ -64,8 +66,8 @@ fn a_bad_job_ends_the_run(rt: LibcRuntime) -> Result<(), Fail> {
     check_eq(text.as_str(), "3 no 7 7")
 }
 
-#[test]
-fn an_unknown_kind_ends_the_run(rt: LibcRuntime) -> Result<(), Fail> {
+// The first line of a file whose first job cannot be decoded; the board must stay as it was made.
+fn undecoded(rt: &LibcRuntime, file: &[u8]) -> Result<String, Fail> {
     let mut board = fresh_board();
     let mut lines = quiet_lines();
     let mut list = [BLANK; 1];
@@ -73,8 +75,16 @@ fn an_unknown_kind_ends_the_run(rt: LibcRuntime) -> Result<(), Fail> {
     {
         let mut results = Row::new(&mut list);
         let mut answered = Row::new(&mut none);
-        run_file(&mut board, &mut lines, &[5, 4], &mut results, &mut answered)?;
+        run_file(&mut board, &mut lines, file, &mut results, &mut answered)?;
     }
-    let text = line(rt.alloc(), &list[0], &none)?;
-    check_eq(text.as_str(), "1 no 6 0")
+    check(board == fresh_board())?;
+    check_eq(lines, quiet_lines())?;
+    Ok(line(rt.alloc(), &list[0], &none)?)
+}
+
+#[test]
+fn a_job_not_decoded_changes_nothing(rt: LibcRuntime) -> Result<(), Fail> {
+    check_eq(undecoded(&rt, &[1, 0x51, 2, 0x10])?.as_str(), "1 no 5 0")?;
+    check_eq(undecoded(&rt, &[5, 4])?.as_str(), "1 no 6 0")?;
+    check_eq(undecoded(&rt, &[1, 0x81, 0])?.as_str(), "1 no 7 0")
 }
