@@ -1,3 +1,5 @@
 // The wire engine: a part of any kind on two wires.
+#![tactic(auto)]
+
 pub mod board;
 pub mod bus;

@@ -1,4 +1,6 @@
 // The tool's side of the bus: its jobs, given sample by sample.
+#![tactic(auto)]
+
 pub mod guard;
 pub mod note;
 pub mod read;

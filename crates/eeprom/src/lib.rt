@@ -1,4 +1,6 @@
 // Lasting cells, with the writes staged for them and the writes under way.
+#![tactic(auto)]
+
 ghost use Rattle.std.specs.Prelude.{◌≡◌, if◌then◌else◌, Some, None, nat_lt};
 ghost use Rattle.eeprom.specs.Cells.{byte_at, staged_at, under_at, is_busy, all_fresh, all_of, with_write, stages, unstages, begins, stopped, finishes, cuts};
 

@@ -1,4 +1,6 @@
 // A file of jobs, read one job after another.
+#![tactic(auto)]
+
 ghost use Rattle.std.specs.Prelude.{◌≡◌, length};
 ghost use Rattle.refusals.specs.Told.{told};
 ghost use Rattle.jobfile.specs.Jobs.{job_at, said_next};

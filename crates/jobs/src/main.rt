@@ -1,4 +1,6 @@
 // Runs a job file from standard input on a board with one fresh DS1846, and prints a line for each job.
+#![tactic(auto)]
+
 use anyhow::anyhow;
 use board::board::Board;
 use ds1846::state::Ds1846;

@@ -1,5 +1,7 @@
 // Two parts on the same wires, as one part: the first part that has an address alone answers it,
 // and the numbers of the second's parts come after those of the first's.
+#![tactic(auto)]
+
 ghost use Rattle.std.specs.Prelude.{◌≡◌};
 ghost use Rattle.pair.specs.Both.{both, join};
 ghost use Rattle.pair.specs.Keeping.{keeps_both};

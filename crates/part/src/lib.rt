@@ -1,5 +1,7 @@
 // The interface of a part: what is asked of it and what moves it, byte by byte.
 // The wire engine holds any part; each chip, and later each layer over parts, is one.
+#![tactic(auto)]
+
 ghost use Rattle.std.specs.Prelude.{◌≡◌};
 ghost use Rattle.part.specs.Ops.{Ops, past, is, below};
 ghost use Rattle.part.specs.Keeps.{Keeps};

@@ -1,4 +1,6 @@
 // Why a call was refused. Every layer refuses with this one enum; docs/RULES.md lists the numbers.
+#![tactic(auto)]
+
 ghost use Rattle.std.specs.Prelude.{◌≡◌};
 ghost use Rattle.refusals.specs.Told.{number, place};
 

@@ -181,7 +181,7 @@ pub fn run_file<P: Part>(
 
 // What became of the job with the number.
 pub fn result_of(results: &Row<'_, JobResult>, number: usize) -> Option<usize>
-    ensures* { λ r. ⌜ r ≡ first_with (λ result. result.number) number 0 (row_of results.now) ⌝ }
+    ensures { result ≡ first_with (λ job. job.number) number 0 (row_of results.now) }
 {
     results.find(number)
 }

@@ -13,10 +13,10 @@ returns-then-aim-eq0 g c =
 
 pub returns-in-Ok : goal.returns-in-Ok
 returns-in-Ok g c =
-    let count : c.open-write-sent.result.0.sent ≡ 1 + length c.args.aim.now = subst (Sent (1 + length c.args.aim.now) c.open-write-sent.result.0.sent) c.in-Ok.is c.open-write-sent.ensures.count in
-    let next = ap (λ n. run g.P.Part.ops (open_with c.args.levels.now n (read_byte c.args.address)) c.open-write-sent.new.board) (sym count) in
-    reads_aimed g.P.Part.ops c.args.levels.now c.args.address c.args.aim.now c.args.board.now _ _ _ c.if-aim-eq0.false (c.open-write-sent.ensures.run ∙ ap (λ r. (c.open-write-sent.new.board, told (λ _. []) r)) c.in-Ok.is) (next ∙ c.read-result-in-Ok.ensures.run) c.stop-refused-in-Ok.ensures
+    let count : c.open_write-sent.result.0.sent ≡ 1 + length c.args.aim.now = subst (Sent (1 + length c.args.aim.now) c.open_write-sent.result.0.sent) c.in-Ok.is c.open_write-sent.ensures.count in
+    let next = ap (λ n. run g.P.Part.ops (open_with c.args.levels.now n (read_byte c.args.address)) c.open_write-sent.new.board) (sym count) in
+    reads_aimed g.P.Part.ops c.args.levels.now c.args.address c.args.aim.now c.args.board.now _ _ _ c.if-aim-eq0.false (c.open_write-sent.ensures.run ∙ ap (λ r. (c.open_write-sent.new.board, told (λ _. []) r)) c.in-Ok.is) (next ∙ c.read-result-in-Ok.ensures.run) c.stop_refused-in-Ok.ensures
 
 pub returns-in-Err : goal.returns-in-Err
 returns-in-Err g c =
-    aim_refused g.P.Part.ops c.args.levels.now c.args.address _ _ c.args.aim.now c.args.board.now _ _ c.if-aim-eq0.false (c.open-write-sent.ensures.run ∙ ap (λ r. (c.open-write-sent.new.board, told (λ _. []) r)) c.in-Err.is) c.stop.ensures.run
+    aim_refused g.P.Part.ops c.args.levels.now c.args.address _ _ c.args.aim.now c.args.board.now _ _ c.if-aim-eq0.false (c.open_write-sent.ensures.run ∙ ap (λ r. (c.open_write-sent.new.board, told (λ _. []) r)) c.in-Err.is) c.stop.ensures.run

@@ -6,4 +6,4 @@ use Rattle.controller.proofs.waiting.poll.Given as goal
 abbrev pub invariant-loop-n : goal.invariant-loop-n
 invariant-loop-n g l =
     (l.lines ≡ l.initial.lines)
-    × (run g.P.Part.ops (waiting (lowered l.initial.lines) l.address (l.polls - l.-n)) l.board ≡ run g.P.Part.ops (waiting (lowered l.initial.lines) l.address l.polls) l.initial.board)
+    × (run g.P.Part.ops (waiting (lowered l.initial.lines) l.address (l.polls - l._n)) l.board ≡ run g.P.Part.ops (waiting (lowered l.initial.lines) l.address l.polls) l.initial.board)

@@ -5,4 +5,4 @@ use Rattle.controller.proofs.wires.receive.Given as goal
 
 abbrev pub invariant-loop-n : goal.invariant-loop-n
 invariant-loop-n g l =
-    (l.byte < 2 ^ l.-n) × (run g.P.Part.ops (read_bits l.levels (8 - l.-n) l.byte) l.board ≡ run g.P.Part.ops (read_bits l.levels 8 0) l.initial.board)
+    (l.byte < 2 ^ l._n) × (run g.P.Part.ops (read_bits l.levels (8 - l._n) l.byte) l.board ≡ run g.P.Part.ops (read_bits l.levels 8 0) l.initial.board)

@@ -8,8 +8,8 @@ returns-then-at-file c =
     let e = past_end c.args.at c.args.file.now (omega arith) in
     record { value = rw e; onward = tt }
 
-pub returns-in-err-value : goal.returns-in-err-value
-returns-in-err-value c = search (rules, between_to_end)
+pub returns-in_err-value : goal.returns-in_err-value
+returns-in_err-value c = search (rules, between_to_end)
 
 pub returns : goal.returns
 returns c = search (rules, between_to_end)

@@ -10,8 +10,8 @@ use Rattle.runner.proofs.run.run_job.Goals as goal
 pub returns-in-Write : goal.returns-in-Write
 unfolding job_run
 returns-in-Write g c =
-    let ran = ap (λ j. job_run g.P.Part.ops c.args.lines.now (said j) c.args.board.now) c.in-Write.is ∙ c.run-write.ensures.run in
-    record { run = without_bytes _ _ c.run-write.result.1 c.args.bytes.now ran; within = none_within _ _ _ c.run-write.result.1 ran; lines = c.run-write.ensures.lines; lender = refl }
+    let ran = ap (λ j. job_run g.P.Part.ops c.args.lines.now (said j) c.args.board.now) c.in-Write.is ∙ c.run_write.ensures.run in
+    record { run = without_bytes _ _ c.run_write.result.1 c.args.bytes.now ran; within = none_within _ _ _ c.run_write.result.1 ran; lines = c.run_write.ensures.lines; lender = refl }
 
 pub returns-in-Read : goal.returns-in-Read
 unfolding job_run

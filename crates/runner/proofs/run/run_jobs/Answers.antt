@@ -11,8 +11,8 @@ pub loop-at-init : goal.loop-at-init
 loop-at-init g c =
     (so_far_none g.P.Part.ops c.args.lines.now c.args.file.now c.args.board.now c.args.results.now c.args.bytes.now c.requires.results c.requires.bytes, refl, refl, refl)
 
-pub run-next-next-requires : goal.run-next-next-requires
-run-next-next-requires g c =
+pub run_next-next-requires : goal.run_next-next-requires
+run_next-next-requires g c =
     let s = c.loop-at.invariant.0 in
     let k = c.loop-at-test.true in
     record {
@@ -23,24 +23,24 @@ run-next-next-requires g c =
 
 pub loop-at-preserved : goal.loop-at-preserved
 loop-at-preserved g c =
-    let ran = c.run-next-next.ensures in
+    let ran = c.run_next-next.ensures in
     let same = c.loop-at.invariant.1 in
-    let board = subst (λ l. c.run-next-next.new.board ≡ (file_job_run g.P.Part.ops l (decoded (job_at c.args.file.now c.loop-at.at)) c.loop-at.at c.loop-at.board).0) same ran.board in
-    let results = subst (λ l. Listed (c.loop-at.number + 1) c.loop-at.bytes.count (file_job_run g.P.Part.ops l (decoded (job_at c.args.file.now c.loop-at.at)) c.loop-at.at c.loop-at.board).1 c.loop-at.results c.run-next-next.new.results) same ran.results in
-    let bytes = subst (λ l. Grown c.loop-at.bytes (bytes_of (file_job_run g.P.Part.ops l (decoded (job_at c.args.file.now c.loop-at.at)) c.loop-at.at c.loop-at.board).1) c.run-next-next.new.bytes) same ran.bytes in
+    let board = subst (λ l. c.run_next-next.new.board ≡ (file_job_run g.P.Part.ops l (decoded (job_at c.args.file.now c.loop-at.at)) c.loop-at.at c.loop-at.board).0) same ran.board in
+    let results = subst (λ l. Listed (c.loop-at.number + 1) c.loop-at.bytes.count (file_job_run g.P.Part.ops l (decoded (job_at c.args.file.now c.loop-at.at)) c.loop-at.at c.loop-at.board).1 c.loop-at.results c.run_next-next.new.results) same ran.results in
+    let bytes = subst (λ l. Grown c.loop-at.bytes (bytes_of (file_job_run g.P.Part.ops l (decoded (job_at c.args.file.now c.loop-at.at)) c.loop-at.at c.loop-at.board).1) c.run_next-next.new.bytes) same ran.bytes in
     let within = subst (λ l. Within (job_answers (decoded (job_at c.args.file.now c.loop-at.at))) (file_job_run g.P.Part.ops l (decoded (job_at c.args.file.now c.loop-at.at)) c.loop-at.at c.loop-at.board).1) same ran.within in (
-      so_far_more g.P.Part.ops c.args.lines.now c.args.file.now c.args.board.now c.args.results.now c.args.bytes.now c.loop-at.number c.loop-at.at c.loop-at.board c.loop-at.results c.loop-at.bytes c.loop-at.invariant.0 c.run-next-next.result.0 c.run-next-next.new.board c.run-next-next.new.results c.run-next-next.new.bytes c.loop-at-test.true ran.next board results bytes within,
+      so_far_more g.P.Part.ops c.args.lines.now c.args.file.now c.args.board.now c.args.results.now c.args.bytes.now c.loop-at.number c.loop-at.at c.loop-at.board c.loop-at.results c.loop-at.bytes c.loop-at.invariant.0 c.run_next-next.result.0 c.run_next-next.new.board c.run_next-next.new.results c.run_next-next.new.bytes c.loop-at-test.true ran.next board results bytes within,
       ran.lines ∙ same,
-      ran.results-lender ∙ c.loop-at.invariant.2,
-      ran.bytes-lender ∙ c.loop-at.invariant.3,
+      ran.results_lender ∙ c.loop-at.invariant.2,
+      ran.bytes_lender ∙ c.loop-at.invariant.3,
     )
 
 pub returns-in-Some : goal.returns-in-Some
 returns-in-Some g c =
     let all = so_far_all g.P.Part.ops c.args.lines.now c.args.file.now c.args.board.now c.args.results.now c.args.bytes.now c.loop-at.number c.loop-at.at c.loop-at.board c.loop-at.results c.loop-at.bytes c.loop-at.invariant.0 c.loop-at-test.false in
-    record { board = all.0; filed = all.1; lines = c.loop-at.invariant.1; results-lender = c.loop-at.invariant.2; bytes-lender = c.loop-at.invariant.3 }
+    record { board = all.0; filed = all.1; lines = c.loop-at.invariant.1; results_lender = c.loop-at.invariant.2; bytes_lender = c.loop-at.invariant.3 }
 
-pub returns-in-default : goal.returns-in-default
-returns-in-default g c =
+pub returns-in_default : goal.returns-in_default
+returns-in_default g c =
     let all = so_far_all g.P.Part.ops c.args.lines.now c.args.file.now c.args.board.now c.args.results.now c.args.bytes.now c.loop-at.number c.loop-at.at c.loop-at.board c.loop-at.results c.loop-at.bytes c.loop-at.invariant.0 c.loop-at-test.false in
-    record { board = all.0; filed = all.1; lines = c.loop-at.invariant.1; results-lender = c.loop-at.invariant.2; bytes-lender = c.loop-at.invariant.3 }
+    record { board = all.0; filed = all.1; lines = c.loop-at.invariant.1; results_lender = c.loop-at.invariant.2; bytes_lender = c.loop-at.invariant.3 }
