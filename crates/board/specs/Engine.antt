@@ -5,7 +5,6 @@ use Rattle.refusals.specs.Told.{Told, ok, refused}
 use Rattle.part.specs.declared.levels.Levels.{Levels}
 use Rattle.part.specs.Ops.{Ops, below}
 use Rattle.board.specs.declared.board.Board.{Board}
-use Rattle.board.specs.declared.bus.Bus.{Bus}
 use Rattle.board.specs.declared.bus.Kind.{Kind}
 use Rattle.board.specs.declared.bus.Kind.TheVariants.{Address, First, Later}
 use Rattle.board.specs.declared.bus.Next.{Next}

@@ -1,5 +1,5 @@
 -- Samples given one after another: whether the board takes them all, and what their run comes to.
-use Rattle.std.proofs.Common.{◌≡◌, ℕ, ◌+◌, ◌<◌, ◌≤◌, Bool, true, false, cond, ltb, List, [], ◌∷◌, ◌++◌, length, get_or, drop, sym, refl, ap, ◌∙◌, arith, ltb-true}
+use Rattle.std.proofs.Common.{◌≡◌, ℕ, ◌+◌, ◌<◌, ◌≤◌, Bool, true, false, cond, ltb, List, [], ◌∷◌, ◌++◌, length, get_or, drop, sym, refl, ap, ◌∙◌, ltb-true}
 use mir.Val.{bool_byte}
 use borrow.Author.Tests.{clash}
 use Rattle.std.proofs.lemmas.List.{at_drop_more, at_drop_all}
@@ -8,7 +8,7 @@ use Rattle.refusals.specs.Told.{Told, ok}
 use Rattle.part.specs.Ops.{Ops}
 use Rattle.board.specs.declared.board.Board.{Board}
 use Rattle.board.specs.Engine.{bit_value}
-use Rattle.controller.specs.Master.{Master, ended, gives, run}
+use Rattle.controller.specs.Master.{ended, gives, run}
 use Rattle.controller.specs.Jobs.{giving, all_samples}
 use Rattle.controller.proofs.Runs.{byte_bit}
 

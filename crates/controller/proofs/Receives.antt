@@ -1,5 +1,5 @@
 -- What the run of a read's bytes comes to.
-use Rattle.std.proofs.Common.{◌≡◌, ℕ, zero, suc, ◌+◌, ◌-◌, ◌<◌, ◌≤◌, Bool, true, false, ltb, leb, List, [], ◌∷◌, ◌++◌, sym, refl, ap, ◌∙◌, subst, arith, ltb-false, ltb-true}
+use Rattle.std.proofs.Common.{◌≡◌, ℕ, suc, ◌+◌, ◌-◌, ◌<◌, ◌≤◌, Bool, true, false, ltb, List, [], ◌∷◌, ◌++◌, sym, refl, ap, ◌∙◌, subst, arith, ltb-false, ltb-true}
 use Rattle.std.proofs.lemmas.Bool.{lt-ltb, le-ltb, le-leb}
 use Rattle.refusals.specs.Told.{Told, ok, refused}
 use Rattle.part.specs.Ops.{Ops}
@@ -7,7 +7,7 @@ use Rattle.part.specs.declared.levels.Levels.{Levels}
 use Rattle.board.specs.declared.board.Board.{Board}
 use Rattle.rows.specs.declared.row.Row.{Row}
 use Rattle.controller.specs.Answers.{Answered, Into, Lasts, plain}
-use Rattle.controller.specs.Master.{Master, ended, gives, ◌then◌, run}
+use Rattle.controller.specs.Master.{Master, ◌then◌, run}
 use Rattle.controller.specs.Bytes.{receive, stop}
 use Rattle.controller.specs.Jobs.{receive_all, reading, addressing, end_refused, unless_refused, close, with_room}
 use Rattle.controller.proofs.Runs.{onward}

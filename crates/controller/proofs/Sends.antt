@@ -1,11 +1,11 @@
 -- What the runs of the jobs come to, from the runs of their pieces.
-use Rattle.std.proofs.Common.{◌≡◌, ℕ, zero, suc, ◌+◌, ◌-◌, ◌<◌, ◌≤◌, Bool, true, false, List, [], ◌∷◌, ◌++◌, length, get_or, drop, sym, refl, ap, ◌∙◌, arith}
+use Rattle.std.proofs.Common.{◌≡◌, ℕ, suc, ◌+◌, ◌-◌, ◌<◌, ◌≤◌, Bool, List, [], ◌∷◌, length, get_or, drop, sym, refl, ap, ◌∙◌, arith}
 use Rattle.refusals.specs.Told.{Told, ok, refused}
 use Rattle.part.specs.Ops.{Ops}
 use Rattle.part.specs.declared.levels.Levels.{Levels}
 use Rattle.board.specs.declared.board.Board.{Board}
-use Rattle.controller.specs.Master.{Master, ended, gives, ◌then◌, run}
-use Rattle.controller.specs.Bytes.{start, stop, send, receive}
+use Rattle.controller.specs.Master.{ended, ◌then◌, run}
+use Rattle.controller.specs.Bytes.{start, stop, send}
 use Rattle.controller.specs.Jobs.{acked, unless_refused, send_one, send_all, open_with, close, write_byte, read_byte, stop_refused, end_refused, sending, addressing, writing, unless_ready, waiting}
 use Rattle.std.proofs.lemmas.List.{at_drop_more, at_drop_all}
 use Rattle.controller.proofs.Runs.{onward}

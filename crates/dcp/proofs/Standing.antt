@@ -1,5 +1,5 @@
 -- A wiper that was moved by a byte stands at the tap of that byte. Assumes nothing.
-use Rattle.std.proofs.Common.{◌≡◌, ℕ, ◌-◌, min, Bool, true, false, eqb, sym, ap, ◌∙◌, arith}
+use Rattle.std.proofs.Common.{◌≡◌, ℕ, Bool, true, false, eqb, sym, ap, ◌∙◌, arith}
 use Rattle.dcp.specs.Taps.{byte_of}
 use Rattle.dcp.specs.Wiper.{entry_by, byte_by, at_byte, Holds}
 use Rattle.dcp.proofs.Table.{inverse}

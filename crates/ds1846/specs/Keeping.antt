@@ -8,7 +8,7 @@ use Rattle.part.specs.declared.levels.Levels.{Levels}
 use Rattle.part.specs.declared.power.PowerCut.{PowerCut}
 use Rattle.part.specs.Keeps.{Keeps, Shape, Fixed, Lasting, Unstaged, Still, Starts, Addresses, Aims, Takes, Passes, Stops, Finishes, Cuts, Settles, stored}
 use Rattle.eeprom.specs.declared.Eeprom.{Eeprom}
-use Rattle.eeprom.specs.Cells.{byte_at, staged_at, under_at, is_busy, stages, finishes, cuts}
+use Rattle.eeprom.specs.Cells.{byte_at, staged_at, under_at, is_busy, stages, finishes}
 use Rattle.eeprom.proofs.Moves.{write_in, busy_if, busy_by, stages_staged, unstages_staged, begins_staged, begins_under, finishes_byte, finishes_under, cuts_byte, cuts_staged, cuts_under}
 use Rattle.ds1846.specs.declared.state.Ds1846.{Ds1846}
 use Rattle.ds1846.specs.declared.state.Mode.{Mode}

@@ -1,8 +1,8 @@
 -- One turn of the number reader, at group i of the rest xs of the file, with the number v so far.
-use Rattle.std.proofs.Common.{◌≡◌, ℕ, zero, suc, ◌+◌, ◌-◌, ◌*◌, ◌<◌, ◌≤◌, true, false, cond, List, [], ◌∷◌, length, get_or, drop, add-one, arith, drop-cons}
+use Rattle.std.proofs.Common.{◌≡◌, ℕ, suc, ◌+◌, ◌-◌, ◌*◌, ◌<◌, ◌≤◌, List, length, get_or, drop, add-one, arith, drop-cons}
 use Rattle.std.proofs.lemmas.List.{drop_all}
 use Rattle.std.proofs.lemmas.Bool.{lt-ltb, le-ltb}
-use Rattle.refusals.specs.Told.{Told, ok, refused}
+use Rattle.refusals.specs.Told.{ok, refused}
 use Rattle.jobfile.specs.Fields.{number_from}
 
 pub at_end : (i v : ℕ) (xs : List ℕ) → i < 3 → length xs ≤ i → number_from (3 - i) v i (drop i xs) ≡ refused 5 0

@@ -1,9 +1,9 @@
 -- What a record says is what it was made of, where that is within the limits.
-use Rattle.std.proofs.Common.{◌≡◌, ℕ, ◌%◌, ◌<◌, ◌≤◌, max, List, length, take, sym, refl, ◌∙◌, mod-eq_of_lt, arith}
+use Rattle.std.proofs.Common.{◌≡◌, ℕ, ◌%◌, ◌≤◌, max, List, length, take, sym, ◌∙◌, mod-eq_of_lt, arith}
 use Rattle.std.proofs.lemmas.List.{take_all}
 use Rattle.std.proofs.lemmas.Bool.{le-ltb}
-use Rattle.refusals.specs.Told.{Told, ok}
-use Rattle.jobfile.specs.Said.{Said, write, read, samples, written, readable, sampled}
+use Rattle.refusals.specs.Told.{ok}
+use Rattle.jobfile.specs.Said.{write, read, samples, written, readable, sampled}
 
 pub made_write : (a : ℕ) (xs : List ℕ) (at : ℕ) → a ≤ 127 → length xs ≤ 255 → ok (write (a % 128) (take 255 xs) at) ≡ written a xs at
 made_write a xs at h k =

@@ -6,7 +6,7 @@ use Rattle.std.specs.Option.{option_or}
 use Rattle.std.proofs.lemmas.Bool.{cases_eq}
 use Rattle.part.specs.declared.levels.Levels.{Levels}
 use Rattle.part.specs.Ops.{Ops, is}
-use Rattle.part.specs.Keeps.{Keeps, Fixed, Lasting, Fades, Forgets, Finishes}
+use Rattle.part.specs.Keeps.{Keeps, Lasting, Fades, Forgets, Finishes}
 use Rattle.part.specs.Moves.{Move, starting, addressing, aiming, taking, giving, levelling, stopping, finishing, cutting, renewing, moved, after}
 use Rattle.part.specs.Chips.{Chip, AlwaysChip}
 

@@ -1,7 +1,7 @@
 -- What a part is, as functions over its state: what can be asked of it, and what moves it.
 -- A numbered part is one chip of it, counted from 0; k is its number, i a cell's, j a wiper's.
 -- An address has 7 bits; an address byte is an address and then 1 for reading, 0 for writing.
-use Rattle.std.specs.Prelude.{ℕ, ◌-◌, Bool, true, false, cond, Some, None, Option, ◌==◌, nat_lt}
+use Rattle.std.specs.Prelude.{ℕ, ◌-◌, Bool, false, cond, Some, None, Option, ◌==◌, nat_lt}
 use Rattle.part.specs.declared.levels.Levels.{Levels}
 use Rattle.part.specs.declared.power.PowerCut.{PowerCut}
 

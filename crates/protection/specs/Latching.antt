@@ -1,5 +1,5 @@
 -- The two write enable latches: what sets and clears them.
-use Rattle.std.specs.Prelude.{◌≡◌, refl, true, false}
+use Rattle.std.specs.Prelude.{refl, true, false}
 use borrow.Author.Tests.{clash}
 use Rattle.protection.specs.declared.latches.Latches.{Latches}
 

@@ -1,5 +1,5 @@
 -- A list that is filled: nothing at first, then one item after another.
-use Rattle.std.proofs.Common.{◌≡◌, ℕ, ◌+◌, ◌<◌, ◌≤◌, List, [], ◌∷◌, ◌++◌, length, get_or, take, drop, set, sym, ap, ◌∙◌, append_assoc, add-zero, arith, length-append, length-drop}
+use Rattle.std.proofs.Common.{◌≡◌, ℕ, ◌+◌, ◌<◌, ◌≤◌, List, [], ◌∷◌, ◌++◌, length, get_or, take, drop, set, ap, ◌∙◌, append_assoc, add-zero, arith, length-append, length-drop}
 use Rattle.std.proofs.lemmas.List.{take-append-drop, drop_more, length-take-le, take_at, drop_at, length_push, set_at, drop-drop}
 use Rattle.rows.specs.Filled.{filled}
 

@@ -1,9 +1,8 @@
 -- A row that grows: nothing yet, then one append after another, or one growth after another.
-use Rattle.std.proofs.Common.{◌≡◌, ℕ, ◌+◌, ◌<◌, ◌≤◌, Bool, true, false, cond, List, [], ◌∷◌, ◌++◌, length, set, sym, refl, ap, ◌∙◌, add-zero, arith, ltb-true}
+use Rattle.std.proofs.Common.{◌≡◌, ◌+◌, ◌<◌, Bool, true, false, cond, List, [], ◌∷◌, ◌++◌, length, set, sym, refl, ap, ◌∙◌, add-zero, arith, ltb-true}
 use Rattle.std.proofs.lemmas.List.{length_push, length-append}
 use Rattle.refusals.specs.Told.{ok}
 use Rattle.rows.specs.declared.row.Row.{Row}
-use Rattle.rows.specs.Filled.{filled}
 use Rattle.rows.specs.Rows.{items_of, row_of, roomy, appends, Grown}
 use Rattle.rows.proofs.Filling.{filled_none, filled_more, filled-filled, length-filled, take-filled}
 

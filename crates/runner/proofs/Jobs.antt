@@ -1,10 +1,10 @@
 -- The jobs of a file, one after another.
-use Rattle.std.proofs.Common.{◌≡◌, ℕ, zero, suc, ◌+◌, ◌-◌, ◌<◌, ◌≤◌, cond, ltb, List, [], ◌∷◌, length, sym, refl, ap, ◌∙◌, arith}
+use Rattle.std.proofs.Common.{◌≡◌, ℕ, zero, suc, ◌+◌, ◌-◌, ◌<◌, ◌≤◌, List, [], ◌∷◌, length, sym, refl, ap, ◌∙◌, arith}
 use Rattle.std.proofs.lemmas.Bool.{lt-ltb, le-ltb}
-use Rattle.refusals.specs.Told.{Told, ok, refused}
+use Rattle.refusals.specs.Told.{ok, refused}
 use Rattle.jobfile.specs.Said.{Said}
 use Rattle.jobfile.specs.Jobs.{job_at}
-use Rattle.runner.specs.FileJobs.{FileJob, Next, decoded, job_then, jobs_from}
+use Rattle.runner.specs.FileJobs.{Next, decoded, job_then, jobs_from}
 
 -- after i jobs, the next is at an offset in the file
 pub turn : (file : List ℕ) (at i : ℕ) → i < length file → at < length file → jobs_from (length file - i) file at ≡ job_then (job_at file at) at (jobs_from (length file - (i + 1)) file)

@@ -1,5 +1,5 @@
 -- What one job adds to the rows of a file.
-use Rattle.std.proofs.Common.{◌≡◌, ℕ, ◌+◌, ◌-◌, ◌<◌, ◌≤◌, Bool, true, cond, List, [], ◌∷◌, ◌++◌, length, set, sym, refl, ap, ◌∙◌, subst, arith}
+use Rattle.std.proofs.Common.{◌≡◌, ℕ, ◌+◌, ◌-◌, ◌<◌, ◌≤◌, cond, List, [], ◌∷◌, length, set, sym, refl, ap, ◌∙◌, subst, arith}
 use Rattle.std.proofs.lemmas.Bool.{lt-ltb}
 use Rattle.refusals.specs.Told.{Told, ok, refused}
 use Rattle.rows.specs.declared.row.Row.{Row}
@@ -7,7 +7,7 @@ use Rattle.rows.specs.Rows.{Grown, items_of, roomy}
 use Rattle.rows.proofs.Growing.{grown_none, grown_more}
 use Rattle.jobfile.specs.Said.{Said}
 use Rattle.controller.specs.Answers.{Answered, plain}
-use Rattle.runner.specs.FileJobs.{job_then, jobs_from, Next}
+use Rattle.runner.specs.FileJobs.{Next}
 use Rattle.runner.specs.Results.{done, seen_at, seen_between}
 use Rattle.runner.specs.Runs.{bytes_of}
 use Rattle.runner.proofs.Jobs.{no_job}

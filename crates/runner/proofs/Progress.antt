@@ -1,5 +1,5 @@
 -- How far a file has been run: what lasts from job to job.
-use Rattle.std.proofs.Common.{◌≡◌, ℕ, suc, ◌+◌, ◌-◌, ◌<◌, ◌≤◌, List, [], ◌∷◌, ◌++◌, map, length, sym, refl, ap, ◌∙◌, subst, append_assoc, append-nil, add-zero, add_assoc, arith, length-append}
+use Rattle.std.proofs.Common.{◌≡◌, ℕ, suc, ◌+◌, ◌-◌, ◌<◌, ◌≤◌, List, [], ◌∷◌, ◌++◌, length, sym, refl, ap, ◌∙◌, subst, append_assoc, append-nil, add-zero, arith, length-append}
 use mathlib.Core.List.{map-append}
 use native.Mathlib.Nat.{sub-zero}
 use lib.ListN.{length-map}
@@ -14,8 +14,8 @@ use Rattle.jobfile.specs.Said.{Said}
 use Rattle.jobfile.specs.Jobs.{job_at}
 use Rattle.runner.specs.declared.result.JobResult.{JobResult}
 use Rattle.runner.specs.FileJobs.{FileJob, Next, decoded, job_answers, all_answers, job_then, jobs_from, file_jobs}
-use Rattle.runner.specs.Results.{Seen, Listed, Filed, shown, seen_at, place_after, listed}
-use Rattle.runner.specs.Runs.{file_job_run, ran, bytes_of, all_bytes, then_rest, Within}
+use Rattle.runner.specs.Results.{Listed, Filed, shown, seen_at, place_after, listed}
+use Rattle.runner.specs.Runs.{file_job_run, ran, bytes_of, all_bytes, Within}
 use Rattle.runner.proofs.Jobs.{turn, next_jobs, no_job}
 
 -- answers so far, and one more

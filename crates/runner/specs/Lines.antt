@@ -1,7 +1,6 @@
 -- The text of a result's line.
 use Rattle.std.specs.Prelude.{ℕ, ◌+◌, ◌/◌, ◌%◌, cond, List, [], ◌∷◌, ◌++◌, take, drop, codes, decimal, nat_lt}
-use Rattle.runner.specs.declared.result.JobResult.{JobResult}
-use Rattle.runner.specs.Results.{Seen, done, no, shown}
+use Rattle.runner.specs.Results.{Seen, done, no}
 
 -- a digit of lower-case hex
 abbrev pub hex_digit : ℕ → ℕ

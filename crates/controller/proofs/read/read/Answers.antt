@@ -1,4 +1,4 @@
-use Rattle.std.proofs.Common.{◌≡◌, ℕ, ◌%◌, ◌≤◌, max, List, [], length, take, sym, refl, ap, ◌∙◌, arith}
+use Rattle.std.proofs.Common.{ℕ, ◌%◌, ◌≤◌, max, List, [], take, sym, refl, ap, ◌∙◌, arith}
 use Rattle.refusals.specs.Told.{ok, refused}
 use Rattle.controller.specs.Answers.{room_of}
 use Rattle.controller.specs.Master.{run}

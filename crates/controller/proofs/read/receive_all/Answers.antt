@@ -1,8 +1,8 @@
-use Rattle.std.proofs.Common.{◌≡◌, ℕ, ◌+◌, ◌-◌, ◌<◌, true, List, [], ◌∷◌, ◌++◌, length, sym, refl, ap, ◌∙◌, arith}
+use Rattle.std.proofs.Common.{ℕ, ◌+◌, ◌<◌, List, [], ◌∷◌, ◌++◌, length, refl, ap, ◌∙◌, arith}
 use native.Mathlib.Nat.{sub-zero}
 use Rattle.std.proofs.lemmas.List.{length_push}
 use Rattle.std.proofs.lemmas.Bool.{lt-ltb}
-use Rattle.rows.specs.Rows.{items_of, roomy}
+use Rattle.rows.specs.Rows.{items_of}
 use Rattle.rows.proofs.Growing.{grown_none, grown_more, length_grown}
 use Rattle.controller.specs.Master.{run}
 use Rattle.controller.specs.Jobs.{receive_all}

@@ -1,5 +1,5 @@
-use Rattle.std.proofs.Common.{◌≡◌, ℕ, ◌+◌, List, [], length, sym, ap, ◌∙◌, subst}
-use Rattle.refusals.specs.Told.{ok, told}
+use Rattle.std.proofs.Common.{◌≡◌, ◌+◌, [], length, sym, ap, ◌∙◌, subst}
+use Rattle.refusals.specs.Told.{told}
 use Rattle.controller.specs.Master.{run}
 use Rattle.controller.specs.Jobs.{open_with, read_byte}
 use Rattle.controller.specs.Transfers.{Sent}

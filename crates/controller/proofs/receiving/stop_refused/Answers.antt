@@ -1,4 +1,4 @@
-use Rattle.std.proofs.Common.{List, [], ap, ◌∙◌}
+use Rattle.std.proofs.Common.{[], ap, ◌∙◌}
 use Rattle.refusals.specs.Told.{told, refused, number, place}
 use Rattle.controller.specs.Master.{run}
 use Rattle.controller.specs.Jobs.{stop_refused}

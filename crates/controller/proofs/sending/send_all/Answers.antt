@@ -1,5 +1,5 @@
-use Rattle.std.proofs.Common.{◌≡◌, ℕ, ◌+◌, List, [], length, drop, ap, ◌∙◌, arith}
-use Rattle.refusals.specs.Told.{ok, told}
+use Rattle.std.proofs.Common.{◌≡◌, ◌+◌, [], drop, ap, ◌∙◌, arith}
+use Rattle.refusals.specs.Told.{told}
 use Rattle.controller.specs.Master.{run}
 use Rattle.controller.specs.Jobs.{send_all}
 use Rattle.controller.proofs.Sends.{all_more, all_refused, all_sent}

@@ -1,4 +1,4 @@
-use Rattle.std.proofs.Common.{◌≡◌, List, [], sym, ap, ◌∙◌}
+use Rattle.std.proofs.Common.{[], sym, ap, ◌∙◌}
 use Rattle.controller.specs.Master.{run}
 use Rattle.controller.specs.Jobs.{writing, lowered}
 use Rattle.controller.proofs.Sends.{wait_more, wait_ready, wait_over}

@@ -1,4 +1,4 @@
-use Rattle.std.proofs.Common.{◌≡◌, sym, ap, ◌∙◌}
+use Rattle.std.proofs.Common.{ap, ◌∙◌}
 use Rattle.board.specs.Engine.{sampled, sample_told}
 use Rattle.controller.proofs.Runs.{answered, unrefused, sample_small}
 use Rattle.controller.proofs.wires.put.Goals as goal

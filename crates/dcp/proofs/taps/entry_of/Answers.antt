@@ -1,4 +1,4 @@
-use Rattle.dcp.specs.Taps.{bytes, looked, Inverse}
+use Rattle.dcp.specs.Taps.{bytes}
 use Rattle.dcp.proofs.Table.{inverse}
 use Rattle.dcp.proofs.taps.entry_of.Goals as goal
 

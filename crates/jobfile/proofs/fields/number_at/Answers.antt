@@ -1,4 +1,4 @@
-use Rattle.std.proofs.Common.{sym, arith, rules}
+use Rattle.std.proofs.Common.{arith, rules}
 use Rattle.std.proofs.lemmas.Slice.{between_to_end}
 use Rattle.jobfile.proofs.Groups.{past_end}
 use Rattle.jobfile.proofs.fields.number_at.Goals as goal

@@ -1,5 +1,4 @@
-use Rattle.std.proofs.Common.{◌≡◌, ◌-◌, length, sym, ap, ◌∙◌, arith, rules}
-use native.Mathlib.Nat.{sub-zero}
+use Rattle.std.proofs.Common.{◌-◌, length, ap, arith}
 use Rattle.runner.specs.FileJobs.{all_answers}
 use Rattle.runner.proofs.Jobs.{next_job, last_job, no_job, none_left}
 use Rattle.runner.proofs.room.room_for.Goals as goal

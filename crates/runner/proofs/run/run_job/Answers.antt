@@ -1,4 +1,4 @@
-use Rattle.std.proofs.Common.{◌≡◌, ℕ, ◌%◌, ◌≤◌, max, List, length, take, sym, refl, ap, ◌∙◌, subst}
+use Rattle.std.proofs.Common.{ℕ, ◌%◌, ◌≤◌, max, List, length, take, sym, refl, ap, ◌∙◌, subst}
 use Rattle.jobfile.specs.Jobs.{said}
 use Rattle.controller.specs.Answers.{room_of}
 use Rattle.controller.specs.Jobs.{reading}

@@ -1,13 +1,12 @@
-use Rattle.std.proofs.Common.{◌≡◌, ℕ, ◌≤◌, length, sym, refl, ap, ◌∙◌, subst, arith}
-use Rattle.refusals.specs.Told.{Told, refused, number, place, told}
+use Rattle.std.proofs.Common.{◌≡◌, ℕ, ◌≤◌, length, refl, ap, ◌∙◌, subst, arith}
+use Rattle.refusals.specs.Told.{refused, number, told}
 use Rattle.rows.specs.Rows.{Grown}
 use Rattle.rows.proofs.Growing.{grown_none}
-use Rattle.jobfile.specs.Said.{Said}
 use Rattle.jobfile.specs.Jobs.{said}
 use Rattle.runner.specs.FileJobs.{decoded, job_answers, Next}
-use Rattle.runner.specs.Results.{Listed, shown, seen_between}
+use Rattle.runner.specs.Results.{Listed, seen_between}
 use Rattle.runner.specs.Runs.{file_job_run, job_run, bytes_of, Within}
-use Rattle.runner.proofs.Listing.{seen_same, grown_bytes, count_grows, one_more, next_after, next_none}
+use Rattle.runner.proofs.Listing.{seen_same, grown_bytes, one_more, next_after, next_none}
 use Rattle.runner.proofs.run.run_next.Goals as goal
 
 pub returns-in-Ok : goal.returns-in-Ok
