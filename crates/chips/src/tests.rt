@@ -1,7 +1,6 @@
 // What the tests share: transfers given to a part byte by byte.
 mod dcps;
 mod lock;
-mod pairs;
 mod register;
 
 use part::Part;

@@ -1,5 +1,6 @@
 ghost use Rattle.std.specs.Prelude.{◌≡◌};
-ghost use Rattle.ds1846.specs.Chip.{fresh};
+ghost use Rattle.part.specs.Chips.{AlwaysChip};
+ghost use Rattle.ds1846.specs.Chip.{ds1846, fresh};
 
 use eeprom::Eeprom;
 
@@ -21,8 +22,10 @@ pub struct Ds1846 {
 }
 
 impl Ds1846 {
+    // Besides, what a chip promises in every state that moves can make of it.
     pub fn fresh() -> Ds1846
-        ensures { result ≡ fresh }
+        ensures made { result ≡ fresh }
+        ensures always { AlwaysChip ds1846 fresh }
     {
         Ds1846 {
             eeprom: Eeprom::fresh(),

@@ -1,5 +1,5 @@
 -- What the chip promises besides the laws of every part. Assumes nothing.
-use Rattle.std.proofs.Common.{◌≡◌, ℕ, false, eqb, refl}
+use Rattle.std.proofs.Common.{◌≡◌, false, eqb, refl}
 use Rattle.part.specs.Chips.{AlwaysChip}
 use Rattle.part.proofs.Busy.{Shows, always_chip}
 use Rattle.eeprom.specs.Cells.{is_busy, all_fresh, stages, begins}

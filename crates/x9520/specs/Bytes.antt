@@ -1,6 +1,6 @@
 -- What a byte that is written does to the cells, the wipers and the address heard. Assumes nothing.
 use Rattle.std.specs.Prelude.{◌≡◌, ℕ, ◌+◌, ◌/◌, ◌%◌, Bool, true, false, cond, not, ◌&&◌, ◌||◌, ◌⊎◌, List, Some, None, Option, ◌==◌, refl}
-use Rattle.std.proofs.Common.{ap, sym, ◌∙◌, subst, inl, inr, arith}
+use Rattle.std.proofs.Common.{ap, sym, ◌∙◌, subst, inl, arith}
 use borrow.Author.Tests.{clash}
 use Rattle.std.proofs.lemmas.Bool.{eqb-true, eqb-false}
 use Rattle.part.specs.Ops.{is}
@@ -17,8 +17,8 @@ use Rattle.x9520.specs.declared.state.Mode.TheVariants.{Idle, Aiming, MemoryByte
 use Rattle.x9520.specs.declared.state.X9520.{X9520}
 use Rattle.protection.specs.Lock.{locks_memory, locks_wipers, wp_forbids}
 use Rattle.x9520.specs.Register.{bit, stored_register}
-use Rattle.x9520.specs.State.{known, device, write_byte, heard_in, mode_after}
-use Rattle.x9520.specs.Writing.{Aim, rejected, at_cell, names, opens, aim_for, aim_in, aim_of, aim_mode, Verdict, refused, barred, pages, moves, latches, stores, memory_verdict, dcp_verdict, armed_verdict, register_verdict, verdict_in, verdict, acks, cells_taken, dcps_taken, mode_taken}
+use Rattle.x9520.specs.State.{known, device, write_byte, heard_in}
+use Rattle.x9520.specs.Writing.{rejected, names, opens, aim_for, aim_in, aim_of, aim_mode, Verdict, refused, barred, pages, moves, latches, stores, memory_verdict, dcp_verdict, armed_verdict, register_verdict, verdict_in, verdict, acks, cells_taken, dcps_taken, mode_taken}
 
 -- what holds of both ways holds of a choice
 either : {V : Type 0} (P : V → Type 0) (b : Bool) (u v : V) → P u → P v → P (cond b u v)

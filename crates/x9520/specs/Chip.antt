@@ -1,10 +1,9 @@
 -- The X9520, as functions over its state. Assumes nothing.
 -- k is a numbered part's number, of which there is only 0; i is a cell's number, j a wiper's;
 -- a is the transfer's address byte, x a byte, l the levels.
-use Rattle.std.specs.Prelude.{ℕ, ◌+◌, ◌/◌, ◌%◌, Bool, true, false, cond, not, ◌&&◌, List, get_or, Some, None, Option, nat_lt, slice_index_or}
+use Rattle.std.specs.Prelude.{ℕ, ◌+◌, ◌/◌, ◌%◌, Bool, false, cond, not, ◌&&◌, List, get_or, Some, None, Option, nat_lt, slice_index_or}
 use Rattle.part.specs.declared.levels.Levels.{Levels}
 use Rattle.part.specs.Ops.{Ops, is}
-use Rattle.eeprom.specs.declared.Eeprom.{Eeprom}
 use Rattle.eeprom.specs.Cells.{byte_at, staged_at, under_at, is_busy, unstages, stopped, finishes, cuts, of_part}
 use Rattle.dcp.specs.declared.dcp.Dcp.{Dcp}
 use Rattle.dcp.specs.Wiper.{tap_of}
@@ -110,7 +109,7 @@ x9520 = record {
   under = λ s k i. of_part k (under_at s.eeprom i) None;
   busy = λ s k. of_part k (is_busy s.eeprom) false;
   tap = λ s k j. of_part k (tap_at s.dcps j) 0;
-  heard = λ s x. is x (heard_in s.mode);
+  heard = λ s. heard_in s.mode;
   hears = hears;
   renew = λ s. fresh;
   start = λ s. chip (unstages s.eeprom) s.dcps s.latches s.flags s.counter s.named Idle;

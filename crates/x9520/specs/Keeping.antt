@@ -6,7 +6,7 @@ use Rattle.std.proofs.lemmas.Bool.{eqb-true, eq-eqb, ne_eqb, and_parts, cond-tru
 use Rattle.part.specs.declared.levels.Levels.{Levels}
 use Rattle.part.specs.declared.power.PowerCut.{PowerCut}
 use Rattle.part.specs.Ops.{is}
-use Rattle.part.specs.Keeps.{Keeps, Shape, Fixed, Lasting, Unstaged, Still, Starts, Addresses, Aims, Takes, Passes, Stops, Finishes, Cuts, Settles, Settled}
+use Rattle.part.specs.Keeps.{Keeps, Shape, Fixed, Lasting, Unstaged, Still, Starts, Addresses, Aims, Takes, Passes, Stops, Finishes, Cuts, Settles}
 use Rattle.eeprom.specs.Cells.{byte_at, staged_at, under_at, is_busy, of_part}
 use Rattle.eeprom.proofs.Moves.{write_in, unstages_staged, cuts_byte, cuts_staged, cuts_under}
 use Rattle.eeprom.proofs.Numbered.{part_none, other_part, owned, write_of, busy_of, busy_from, stopped_byte, stopped_staged, stopped_under, finish_stores, finish_ends, finish_staged, elsewhere, cut_stores, apart}
@@ -39,9 +39,11 @@ unstaged t h k i = part_none (k == 0) _ (h i)
 still : (s t : X9520) → t.dcps ≡ s.dcps → Still x9520 s t
 still s t d k j = ap (λ v. of_part k (tap_at v j) 0) d
 
--- out of the transfer nothing is heard
-idle_forgets : (s : X9520) (x : ℕ) → is x None ≡ true → x9520.heard s x ≡ true
-idle_forgets s x h = absurd (clash h)
+-- where each byte heard afterwards is one heard before, the address heard stays or goes
+forgets_by : (o p : Option ℕ) → ((y : ℕ) → is y p ≡ true → is y o ≡ true) → (p ≡ o) ⊎ (p ≡ None)
+forgets_by o None h = inr refl
+forgets_by None (Some y) h = absurd (clash (h y (eq-eqb y y refl)))
+forgets_by (Some z) (Some y) h = inl (ap Some (sym (eqb-true z y (h y (eq-eqb y y refl)))))
 
 shape : (s : X9520) → Shape x9520 s
 shape s = record {
@@ -65,17 +67,15 @@ starts s =
         fixed = fixed s _;
         lasting = lasting s (x9520.start s) (λ i. refl) (λ i. refl);
         fades = λ k i. inr (none k i);
-        forgets = idle_forgets s;
+        forgets = inr refl;
       };
       unstaged = none;
-      unheard = λ x. refl;
+      unheard = refl;
     }
 
-heard_after : (b : Bool) (o : Option ℕ) (x y : ℕ) (t : Bool) → (known (x / 2) && t) ≡ b → is y (heard_in (mode_after b x)) ≡ true → (is y o ≡ true) ⊎ ((y ≡ x) × ((known (x / 2) && t) ≡ true))
-heard_after true o x y t e h =
-    let z = mode_heard (x % 2 == 1) x refl (and_parts _ _ e).0 in
-    inr (sym (eqb-true x y (rw z at h)), e)
-heard_after false o x y t e h = absurd (clash h)
+heard_after : (b : Bool) (o : Option ℕ) (x : ℕ) (t : Bool) → (known (x / 2) && t) ≡ b → ((heard_in (mode_after b x) ≡ o) ⊎ (heard_in (mode_after b x) ≡ None)) ⊎ (((known (x / 2) && t) ≡ true) × (heard_in (mode_after b x) ≡ Some x))
+heard_after true o x t e = inr (e, mode_heard (x % 2 == 1) x refl (and_parts _ _ e).0)
+heard_after false o x t e = inl (inr refl)
 
 addresses : (s : X9520) (x : ℕ) → Addresses x9520 s x (x9520.address s x)
 addresses s x = record {
@@ -83,10 +83,10 @@ addresses s x = record {
   lasting = lasting s (x9520.address s x) (λ i. refl) (λ i. refl);
   fades = λ k i. inr (unstaged (x9520.address s x) (unstages_staged s.eeprom) k i);
   still = λ k j. refl;
-  heard = λ y h. heard_after (hears s x) (heard_in s.mode) x y (not (is_busy s.eeprom)) refl h;
+  heard = heard_after (hears s x) (heard_in s.mode) x (not (is_busy s.eeprom)) refl;
 }
 
-aiming : (s : X9520) (a : ℕ) (l : Levels) (x : ℕ) → Aims x9520 s a (x9520.aims s a l x) (x9520.aim s a l x)
+aiming : (s : X9520) (a : ℕ) (l : Levels) (x : ℕ) → Aims x9520 s (x9520.aims s a l x) (x9520.aim s a l x)
 aiming s a l x =
     let t = x9520.aim s a l x in
     let none = unstaged t (unstages_staged s.eeprom) in
@@ -95,10 +95,10 @@ aiming s a l x =
         fixed = fixed s t;
         lasting = lasting s t (λ i. refl) (λ i. refl);
         fades = λ k i. inr (none k i);
-        forgets = aimed_heard s a x;
+        forgets = forgets_by (heard_in s.mode) _ (aimed_heard s a x);
       };
       still = still s t refl;
-      unacked = λ h k i o. none k i;
+      unacked = λ h. none;
     }
 
 taking : (s : X9520) (a : ℕ) (l : Levels) (x : ℕ) → Takes x9520 s a x (x9520.takes s a l x) (x9520.take s a l x)
@@ -111,11 +111,11 @@ taking s a l x =
     record {
       fixed = fixed s t;
       lasting = lasting s t (taken_byte v e n m x) (taken_under v e n m x);
-      forgets = taken_heard s a l.wp x;
+      forgets = forgets_by (heard_in s.mode) _ (taken_heard s a l.wp x);
       acked = λ h. (target v n m, λ k i. taken_staged v e n m x k i _ (cond-true _ _ _ (acked_known s a l.wp x h)) h);
       unacked = λ h.
           let none = unstaged t (λ i. taken_none v e n m x i h) in
-          ((λ k i o. none k i), (λ k i. inr (none k i)), still s t (taken_dcps v s.dcps m x h));
+          (none, still s t (taken_dcps v s.dcps m x h));
     }
 
 passes : (s t : X9520) → s.eeprom ≡ t.eeprom → s.dcps ≡ t.dcps → s.mode ≡ t.mode → Passes x9520 s t
@@ -124,7 +124,7 @@ passes s t e d m = record {
     fixed = fixed s t;
     lasting = lasting s t (λ i. ap (λ f. byte_at f i) (sym e)) (λ i. ap (λ f. under_at f i) (sym e));
     fades = λ k i. inl (ap (λ f. of_part k (staged_at f i) None) (sym e));
-    forgets = λ x h. ap (λ n. is x (heard_in n)) m ∙ h;
+    forgets = inl (ap heard_in (sym m));
   };
   still = still s t (sym d);
 }
@@ -137,7 +137,7 @@ stops s clean l =
       cell = λ k i. ap (λ v. of_part k v 0) (stopped_byte s.eeprom (clean && not l.wp) i);
       under = λ k i. stopped_under s.eeprom clean l.wp k i;
       unstaged = unstaged t (stopped_staged s.eeprom (clean && not l.wp));
-      forgets = idle_forgets s;
+      forgets = inr refl;
     }
 
 finishing : (s : X9520) (q : ℕ) → Finishes x9520 s q (x9520.finish s q)
@@ -148,7 +148,7 @@ finishing s q =
       stores = λ i. finish_stores e x9520 (q == 0) i;
       ends = λ i. finish_ends e (q == 0) i;
       fades = λ k i. inl (ap (λ w. of_part k w None) (finish_staged e (q == 0) i));
-      forgets = λ x h. h;
+      forgets = inl refl;
       other_cell = λ k i h. elsewhere e (λ f. byte_at f i) 0 (k == 0) (q == 0) (apart k q h);
       other_under = λ k i h. elsewhere e (λ f. under_at f i) None (k == 0) (q == 0) (apart k q h);
       other_staged = λ k i h. elsewhere e (λ f. staged_at f i) None (k == 0) (q == 0) (apart k q h);
@@ -165,7 +165,7 @@ cutting s p =
       unmarked = λ k i h. ap (λ v. of_part k v 0) (cuts_byte e p.mask i ∙ cond-false _ _ _ (ne_eqb (p.mask / 2 ^ (i % 16) % 2) 1 h));
       ends = λ k i. part_none (k == 0) _ (cuts_under e p.mask i);
       unstaged = unstaged t (cuts_staged e p.mask);
-      unheard = λ x. refl;
+      unheard = refl;
     }
 
 -- a flag that a LOW output has cleared stays so at the same level

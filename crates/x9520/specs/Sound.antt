@@ -1,7 +1,6 @@
 -- What holds of an X9520 in each state that its moves can make.
 use Rattle.std.specs.Prelude.{◌≡◌, ℕ, ◌<◌, true, List, [], ◌∷◌, get_or, slice_index, slice_index_or}
 use Rattle.part.specs.Moves.{Move, after}
-use Rattle.dcp.specs.declared.dcp.Dcp.{Dcp}
 use Rattle.dcp.specs.Wiper.{byte_for, tap_of}
 use Rattle.x9520.specs.declared.state.X9520.{X9520}
 use Rattle.x9520.specs.Chip.{x9520}

@@ -1,5 +1,6 @@
 // What the chip answers, and what moves it.
 ghost use Rattle.std.specs.Prelude.{◌≡◌};
+ghost use Rattle.part.specs.Ops.{is};
 ghost use Rattle.x9520.specs.Chip.{x9520, latches_stopped, flags_stopped};
 ghost use Rattle.x9520.specs.Register.{stored_register};
 ghost use Rattle.x9520.specs.State.{known, device, write_byte, heard_in};
@@ -58,6 +59,16 @@ fn heard_in(mode: Mode) -> Option<u8>
 }
 
 impl X9520 {
+    // Whether this is the address byte heard.
+    fn in_turn(&self, byte: u8) -> bool
+        ensures { result ≡ is byte (heard_in self.now.mode) }
+    {
+        match heard_in(self.mode) {
+            Some(heard) => heard == byte,
+            None => false,
+        }
+    }
+
     // The first byte for a device.
     fn aim_at(&mut self, device: Device, byte: u8) -> bool
         ensures answer { result ≡ aim_acks (aim_for device byte) }
@@ -186,11 +197,8 @@ impl Part for X9520 {
         }
     }
 
-    fn heard(&self, byte: u8) -> bool {
-        match heard_in(self.mode) {
-            Some(heard) => heard == byte,
-            None => false,
-        }
+    fn heard(&self) -> Option<u8> {
+        heard_in(self.mode)
     }
 
     fn hears(&self, byte: u8) -> bool {
@@ -221,7 +229,7 @@ impl Part for X9520 {
     }
 
     fn aim(&mut self, address: u8, _levels: Levels, byte: u8) -> bool {
-        if !self.heard(address) {
+        if !self.in_turn(address) {
             return self.refuse();
         }
         match self.mode {
@@ -231,7 +239,7 @@ impl Part for X9520 {
     }
 
     fn take(&mut self, address: u8, levels: Levels, byte: u8) -> bool {
-        if !self.heard(address) {
+        if !self.in_turn(address) {
             return self.refuse();
         }
         match self.mode {
@@ -243,7 +251,7 @@ impl Part for X9520 {
     }
 
     fn give(&mut self, address: u8) -> u8 {
-        if !self.heard(address) {
+        if !self.in_turn(address) {
             return 0xff;
         }
         match self.mode {
