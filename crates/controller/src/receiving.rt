@@ -14,13 +14,13 @@ use refusals::Refusal;
 // A transfer whose read address got no ACK is ended with a STOP.
 fn stop_refused<P: Part>(
     reading: Reading,
-    res: Result<(), Refusal>,
+    outcome: Result<(), Refusal>,
     board: &mut Board<P>,
     levels: &Levels,
 ) -> Result<Reading, Refusal>
-    ensures { run P.Part.ops (stop_refused levels.now (told (λ _. []) res)) board.old ≡ (board.new, told (λ _. []) result) }
+    ensures { run P.Part.ops (stop_refused levels.now (told (λ _. []) outcome)) board.old ≡ (board.new, told (λ _. []) result) }
 {
-    match res {
+    match outcome {
         Ok(()) => Ok(reading),
         Err(refusal) => {
             reading.stop(board, levels).end();

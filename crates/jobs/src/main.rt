@@ -4,7 +4,6 @@
 use anyhow::anyhow;
 use board::board::Board;
 use ds1846::state::Ds1846;
-use part::Part;
 use part::levels::Levels;
 use refusals::Refusal;
 use rows::row::Row;

@@ -61,11 +61,11 @@ fn done_line(heap: Global, number: usize, bytes: &[u8]) -> Result<String, AllocE
 }
 
 // The line of a result whose bytes stand in the byte list.
-pub fn line(heap: Global, res: &JobResult, bytes: &[u8]) -> Result<String, AllocError>
-    ensures { IfOk result (λ s. string_bytes s ≡ line_text (shown res.now) bytes.now) }
+pub fn line(heap: Global, job: &JobResult, bytes: &[u8]) -> Result<String, AllocError>
+    ensures { IfOk result (λ s. string_bytes s ≡ line_text (shown job.now) bytes.now) }
 {
-    let number = res.number;
-    match res.outcome {
+    let number = job.number;
+    match job.outcome {
         Outcome::Done { from, count } => done_line(heap, number, part(bytes, from, count)),
         Outcome::Refused { refusal, place } => {
             let refusal = refusal.number();

@@ -10,7 +10,6 @@ use jobfile::read::Read;
 use jobfile::samples::Samples;
 use jobfile::wait::Wait;
 use jobfile::write::Write;
-use part::Part;
 use refusals::Refusal;
 use rows::row::Row;
 use std::test::Fail;

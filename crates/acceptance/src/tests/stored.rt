@@ -2,7 +2,6 @@
 use super::{fresh_board, written};
 use board::board::Board;
 use ds1846::state::Ds1846;
-use part::Part;
 use refusals::Refusal;
 use std::test::Fail;
 
