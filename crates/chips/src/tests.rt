@@ -2,6 +2,7 @@
 mod dcps;
 mod lock;
 mod register;
+mod renewal;
 
 use part::Part;
 use part::levels::Levels;

@@ -1,5 +1,5 @@
 -- What a register byte locks, by its bits 4 and 3, and what WP forbids.
-use Rattle.std.specs.Prelude.{Bool, true, false, cond, not, ◌&&◌, ◌||◌, ℕ, ◌/◌, ◌%◌, eqb, leb}
+use Rattle.std.specs.Prelude.{Bool, true, false, cond, not, ◌&&◌, ◌||◌, ℕ, ◌/◌, ◌%◌, ◌==◌, nat_le}
 
 abbrev pub lock_bits : ℕ → ℕ
 lock_bits r = r / 8 % 4
@@ -7,13 +7,13 @@ lock_bits r = r / 8 % 4
 -- of the 256 memory cells none, the last quarter, the last half, or all
 abbrev pub locks_memory : ℕ → ℕ → Bool
 locks_memory r i =
-    cond (eqb (lock_bits r) 0) false (
-    cond (eqb (lock_bits r) 1) (leb 192 i) (
-    cond (eqb (lock_bits r) 2) (leb 128 i) true))
+    cond (lock_bits r == 0) false (
+    cond (lock_bits r == 1) (nat_le 192 i) (
+    cond (lock_bits r == 2) (nat_le 128 i) true))
 
 -- the wipers and the stored wipers: wherever some memory is locked
 abbrev pub locks_wipers : ℕ → Bool
-locks_wipers r = not (eqb (lock_bits r) 0)
+locks_wipers r = not (lock_bits r == 0)
 
 -- WP HIGH forbids stored writes, and every write while something is locked.
 abbrev pub wp_forbids : Bool → Bool → ℕ → Bool

@@ -1,7 +1,7 @@
 -- The X9520, as functions over its state. Assumes nothing.
 -- k is a numbered part's number, of which there is only 0; i is a cell's number, j a wiper's;
 -- a is the transfer's address byte, x a byte, l the levels.
-use Rattle.std.specs.Prelude.{ℕ, ◌+◌, ◌/◌, ◌%◌, Bool, false, cond, not, ◌&&◌, List, get_or, Some, None, Option, nat_lt, slice_index_or}
+use Rattle.std.specs.Prelude.{ℕ, ◌+◌, ◌/◌, ◌%◌, Bool, false, cond, not, ◌&&◌, List, Some, None, Option, nat_lt, slice_index_or}
 use Rattle.part.specs.declared.levels.Levels.{Levels}
 use Rattle.part.specs.Ops.{Ops, is}
 use Rattle.eeprom.specs.Cells.{byte_at, staged_at, under_at, is_busy, unstages, stopped, finishes, cuts, of_part}
@@ -40,7 +40,7 @@ abbrev pub source : X9520 → ℕ → Option Device
 source s a = cond (is a (heard_in s.mode)) (source_in s.mode) None
 
 abbrev pub wiper_register : List Dcp → ℕ → ℕ
-wiper_register d m = cond (nat_lt m 3) (get_or d m no_dcp).register 0
+wiper_register d m = cond (nat_lt m 3) (slice_index_or d m no_dcp).register 0
 
 abbrev pub given : Option Device → X9520 → ℕ
 given None s = 255
