@@ -1,7 +1,9 @@
-use Rattle.std.proofs.Common.{rules}
 use Rattle.x9520.proofs.Alone.{always_x9520}
 use Rattle.x9520.proofs.Standing.{always_sound}
 use Rattle.x9520.proofs.state.X9520.fresh.Goals as goal
 
-pub returns : goal.returns
-returns c = record { made = search rules; always = always_x9520; sound = always_sound }
+pub returns-clause-always : goal.returns-clause-always
+returns-clause-always c = always_x9520
+
+pub returns-clause-sound : goal.returns-clause-sound
+returns-clause-sound c = always_sound
