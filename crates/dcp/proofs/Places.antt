@@ -1,39 +1,33 @@
 -- Where the first entry of a list that is a given number stands. Assumes nothing.
-use Rattle.std.proofs.Common.{◌≡◌, ℕ, zero, suc, ◌+◌, ◌<◌, ◌≤◌, Bool, true, false, eqb, ◌⊎◌, List, [], ◌∷◌, length, get_or, drop, sym, refl, ◌∙◌, inl, inr, add-zero, arith, drop_of_length-le, drop-cons}
-use Rattle.std.proofs.lemmas.Bool.{eqb-true, eqb-false, eq-eqb, ne_eqb}
-use Rattle.dcp.specs.Taps.{place_from}
+use Rattle.std.proofs.Common.{◌≡◌, ℕ, ◌<◌, Bool, true, false, not, eqb, ltb, ◌⊎◌, List, length, get_or, sym, refl, inl, inr, arith}
+use borrow.Author.Tests.{clash}
+use Rattle.std.specs.List.{position_or_len}
+use Rattle.std.proofs.lemmas.Bool.{eqb-true, eq-eqb, ltb-true, ltb-false}
+use Rattle.std.proofs.lemmas.List.Sums.{prefix_len_passes, prefix_len_stops}
+use Rattle.dcp.specs.Taps.{tap_in}
 
--- the search from place i on: it ends there, goes on, or has come to the end
-pub ends_at : (xs : List ℕ) (b i : ℕ) → i < length xs → get_or xs i 0 ≡ b → place_from b i (drop i xs) ≡ i
-unfolding place_from
-ends_at xs b i h e = rw (drop-cons xs i 0 h, eq-eqb (get_or xs i 0) b e)
+-- the entry b stands at the tap answered
+abbrev pub Found : ℕ → List ℕ → Type 0
+Found b xs = (tap_in xs b < length xs) × (get_or xs (tap_in xs b) 0 ≡ b)
 
-pub goes_on : (xs : List ℕ) (b i : ℕ) → i < length xs → (get_or xs i 0 ≡ b → ⊥) → place_from b i (drop i xs) ≡ place_from b (suc i) (drop (suc i) xs)
-unfolding place_from
-goes_on xs b i h n = rw (drop-cons xs i 0 h, ne_eqb (get_or xs i 0) b n)
+abbrev pub Missing : ℕ → List ℕ → Type 0
+Missing b xs = ((k : ℕ) → k < length xs → get_or xs k 0 ≡ b → ⊥) × (tap_in xs b ≡ 99)
 
-pub past_all : (xs : List ℕ) (b i : ℕ) → length xs ≤ i → place_from b i (drop i xs) ≡ 99
-unfolding place_from
-past_all xs b i h = rw (drop_of_length-le xs h)
+denied : (t : Bool) → not t ≡ false → t ≡ true
+denied true h = refl
+denied false h = absurd (clash (sym h))
 
--- the place answered, in a list that is searched from number i on
-abbrev pub Found : ℕ → ℕ → List ℕ → Type 0
-Found b i xs = (k : ℕ) × (k < length xs) × (get_or xs k 0 ≡ b) × (place_from b i xs ≡ i + k)
+differs : (b x : ℕ) → not (eqb x b) ≡ true → x ≡ b → ⊥
+differs b x h e = let f = eq-eqb x b e in clash (rw f at h)
 
-abbrev pub Missing : ℕ → ℕ → List ℕ → Type 0
-Missing b i xs = ((k : ℕ) → k < length xs → get_or xs k 0 ≡ b → ⊥) × (place_from b i xs ≡ 99)
+tells_by : (t : Bool) (b : ℕ) (xs : List ℕ) → ltb (position_or_len (λ x. eqb x b) xs) (length xs) ≡ t → Found b xs ⊎ Missing b xs
+unfolding tap_in
+tells_by true b xs e =
+    let lt = ltb-true _ _ e in
+    inl (rw e (lt, eqb-true _ _ (denied _ (prefix_len_stops (λ x. not (eqb x b)) xs 0 lt))))
+tells_by false b xs e =
+    let le = ltb-false _ _ e in
+    inr ((λ k h. differs b (get_or xs k 0) (prefix_len_passes (λ x. not (eqb x b)) xs k 0 (omega arith))), rw e refl)
 
-later : (b i x : ℕ) (xs : List ℕ) → eqb x b ≡ false → Found b (suc i) xs ⊎ Missing b (suc i) xs → Found b i (x ∷ xs) ⊎ Missing b i (x ∷ xs)
-unfolding place_from
-later b i x xs e (inl f) = inl (suc f.0, omega (arith, f.1), f.2, rw e (f.3 ∙ omega arith))
-later b i x xs e (inr m) = inr ((λ (k : ℕ). elim k as (λ n. n < length (x ∷ xs) → get_or (x ∷ xs) n 0 ≡ b → ⊥) [ zero ↦ λ h q. eqb-false x b e q | suc n ↦ λ h q. m.0 n (omega arith) q ]), rw e m.1)
-
-tells_by : (t : Bool) (b i x : ℕ) (xs : List ℕ) → eqb x b ≡ t → Found b (suc i) xs ⊎ Missing b (suc i) xs → Found b i (x ∷ xs) ⊎ Missing b i (x ∷ xs)
-unfolding place_from
-tells_by true b i x xs e r = inl (0, omega arith, eqb-true x b e, rw e (sym (add-zero i)))
-tells_by false b i x xs e r = later b i x xs e r
-
-pub tells : (b i : ℕ) (xs : List ℕ) → Found b i xs ⊎ Missing b i xs
-unfolding place_from
-tells b i [] = inr ((λ k h e. absurd (omega arith)), refl)
-tells b i (x ∷ xs) = tells_by (eqb x b) b i x xs refl (tells b (suc i) xs)
+pub tells : (b : ℕ) (xs : List ℕ) → Found b xs ⊎ Missing b xs
+tells b xs = tells_by _ b xs refl

@@ -16,19 +16,18 @@ byte_at t h = get_or-map-range_with_len byte_of 0 100 t t 0 h (omega arith)
 apart : (s t : ℕ) → s < 100 → t < 100 → byte_of s ≡ byte_of t → s ≡ t
 apart s t h k e = grind (arith, cases)
 
-found : (b : ℕ) → Found b 0 bytes → Inverse b (looked bytes b)
+found : (b : ℕ) → Found b bytes → Inverse b (looked bytes b)
 found b f =
-    let lt : f.0 < 100 = omega (arith, f.1, length_bytes) in
-    let at : tap_in bytes b ≡ f.0 = omega (arith, f.3) in
-    let is : byte_of f.0 ≡ b = sym (byte_at f.0 lt) ∙ f.2 in
+    let lt : tap_in bytes b < 100 = omega (arith, f.0, length_bytes) in
+    let is : byte_of (tap_in bytes b) ≡ b = sym (byte_at _ lt) ∙ f.1 in
     record {
-      below = omega arith;
-      its = byte_at (tap_in bytes b) (omega arith);
-      back = λ t h e. at ∙ apart f.0 t lt h (is ∙ sym e);
-      none = λ n. absurd (n f.0 lt is);
+      below = lt;
+      its = byte_at (tap_in bytes b) lt;
+      back = λ t h e. apart (tap_in bytes b) t lt h (is ∙ sym e);
+      none = λ n. absurd (n _ lt is);
     }
 
-missing : (b : ℕ) → Missing b 0 bytes → Inverse b (looked bytes b)
+missing : (b : ℕ) → Missing b bytes → Inverse b (looked bytes b)
 missing b m = record {
   below = omega (arith, m.1);
   its = byte_at (tap_in bytes b) (omega (arith, m.1));
@@ -36,9 +35,9 @@ missing b m = record {
   none = λ n. m.1;
 }
 
-either : (b : ℕ) → Found b 0 bytes ⊎ Missing b 0 bytes → Inverse b (looked bytes b)
+either : (b : ℕ) → Found b bytes ⊎ Missing b bytes → Inverse b (looked bytes b)
 either b (inl f) = found b f
 either b (inr m) = missing b m
 
 pub inverse : (b : ℕ) → Inverse b (looked bytes b)
-inverse b = either b (tells b 0 bytes)
+inverse b = either b (tells b bytes)

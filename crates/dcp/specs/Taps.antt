@@ -1,6 +1,7 @@
 -- A potentiometer of 100 taps: which byte stands for which tap.
-use Rattle.std.specs.Prelude.{◌≡◌, ℕ, suc, ◌+◌, ◌-◌, ◌<◌, cond, List, [], ◌∷◌, map, ◌==◌, ◌≢◌, nat_lt, slice_index}
-use Rattle.std.specs.List.{range_with_len}
+use Rattle.std.specs.Prelude.{◌≡◌, ℕ, ◌+◌, ◌-◌, ◌<◌, cond, List, map, ◌==◌, ◌≢◌, nat_lt, slice_index}
+use Rattle.std.specs.List.{position, range_with_len}
+use Rattle.std.specs.Option.{unwrap_or}
 use Rattle.dcp.specs.declared.taps.Entry.{Entry}
 
 -- bytes 0 to 24 for taps 0 to 24, 56 down to 32 for 25 to 49, 64 to 88 for 50 to 74, 120 down to 96 for 75 to 99
@@ -11,15 +12,11 @@ byte_of t = cond (nat_lt t 25) t (cond (nat_lt t 50) (81 - t) (cond (nat_lt t 75
 unfoldable pub bytes : List ℕ
 bytes = map byte_of (range_with_len 0 100)
 
--- the place of the first entry that is b, counted from i; 99 where none is
-unfoldable pub place_from : ℕ → ℕ → List ℕ → ℕ
-place_from b i [] = 99
-place_from b i (x ∷ xs) = cond (x == b) i (place_from b (suc i) xs)
+-- the tap of a byte in a table: the place of its first entry that is the byte, 99 where none is
+unfoldable pub tap_in : List ℕ → ℕ → ℕ
+tap_in xs b = unwrap_or (position (λ x. x == b) xs) 99
 
--- the tap of a byte in a table, and the entry at that tap
-abbrev pub tap_in : List ℕ → ℕ → ℕ
-tap_in xs b = place_from b 0 xs
-
+-- that tap, and the entry there
 abbrev pub looked : List ℕ → ℕ → Entry
 looked xs b = record { tap = tap_in xs b; byte = slice_index xs (tap_in xs b) }
 

@@ -17,17 +17,14 @@ fn entry_for(taps: u16, byte: u8) -> Entry
     if taps == 100 {
         entry_of(byte)
     } else {
-        let tap = if (byte as u16) < taps {
-            byte
-        } else {
-            taps.saturating_sub(1) as u8
-        };
+        let tap = u16::from(byte).min(taps.saturating_sub(1)) as u8;
         Entry { tap, byte: tap }
     }
 }
 
 impl Dcp {
     // The wiper at the tap of a byte.
+    #[tactic(auto, using(crate::proofs::Standing::holds))]
     pub fn new(taps: u16, byte: u8) -> Dcp
         ensures made { result ≡ at_byte taps byte }
         ensures holds { Holds byte result }
@@ -47,8 +44,7 @@ impl Dcp {
     pub fn tap(&self) -> u16
         ensures { result ≡ tap_of self.now }
     {
-        let Dcp { register, taps } = *self;
-        entry_for(taps, register).tap as u16
+        u16::from(entry_for(self.taps, self.register).tap)
     }
 
     // Moves the wiper to the tap of a byte.

@@ -1,5 +1,6 @@
 // The bytes of a potentiometer of 100 taps.
-ghost use Rattle.std.specs.Prelude.{◌≡◌, ◌<◌};
+ghost use Rattle.std.specs.Prelude.{◌≡◌, ◌<◌, ◌==◌};
+ghost use Rattle.std.specs.List.{position};
 ghost use Rattle.dcp.specs.Taps.{bytes, tap_in, looked, Inverse};
 
 // The byte of each tap.
@@ -18,17 +19,20 @@ pub struct Entry {
     pub byte: u8,
 }
 
-// The place of the first entry that is the byte, or 99 where none is.
+// The place of the first entry that is the byte.
+fn first(table: &[u8; 100], byte: u8) -> Option<usize>
+    ensures { result ≡ position (λ x. x == byte) table.now }
+{
+    table.iter().position(|entry| *entry == byte)
+}
+
+// That place, or 99 where no entry is the byte.
+#[tactic(auto, unfolding(crate::specs::Taps::tap_in))]
 fn place(table: &[u8; 100], byte: u8) -> u8
     ensures found { result ≡ tap_in table.now byte }
     ensures inside { result < 100 }
 {
-    for i in 0..100u8 {
-        if table[i as usize] == byte {
-            return i;
-        }
-    }
-    99
+    first(table, byte).map_or(99, |tap| tap as u8)
 }
 
 // The tap of a byte in any table, and the entry at that tap.
@@ -42,10 +46,19 @@ pub fn look(table: &[u8; 100], byte: u8) -> Entry
     }
 }
 
+// The constant table is the table of the rule: its entries are computed and compared.
+#[tactic(auto, unfolding(crate::specs::Taps::bytes))]
+fn look_up(byte: u8) -> Entry
+    ensures { result ≡ looked bytes byte }
+{
+    look(&BYTES, byte)
+}
+
 // The tap that a byte stands for, and the byte of that tap.
+#[tactic(auto, using(crate::proofs::Table::inverse))]
 pub fn entry_of(byte: u8) -> Entry
     ensures found { result ≡ looked bytes byte }
     ensures inverse { Inverse byte result }
 {
-    look(&BYTES, byte)
+    look_up(byte)
 }

@@ -1,3 +1,2 @@
 pub mod Filling
-pub mod Finding
 pub mod Growing

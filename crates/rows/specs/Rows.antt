@@ -1,5 +1,6 @@
 -- What a row holds, and what is found in it.
-use Rattle.std.specs.Prelude.{◌≡◌, ℕ, ◌+◌, ◌≤◌, Bool, true, false, cond, List, [], ◌∷◌, length, take, Some, None, Option, ◌==◌, nat_lt}
+use Rattle.std.specs.Prelude.{◌≡◌, ℕ, ◌+◌, ◌≤◌, Bool, true, false, List, length, take, Option, ◌==◌, nat_lt}
+use Rattle.std.specs.List.{position}
 use Rattle.refusals.specs.Told.{Told, ok, refused}
 use Rattle.rows.specs.declared.row.Row.{Row}
 use Rattle.rows.specs.Filled.{filled}
@@ -27,12 +28,6 @@ pub record Grown {A : Type 0} (before : Row A) (xs : List A) (after : Row A) : T
   pub fits : before.count + length xs ≤ length (items_of before)
   pub items : items_of after ≡ filled (items_of before) before.count xs
 
--- what may be there, its value shown by f
-abbrev pub shown : {X A : Type 0} → (X → A) → Option X → Option A
-shown f None = None
-shown f (Some x) = Some (f x)
-
--- the place of the first item with the key k, where the list begins at place i
-abbrev pub first_with : {A : Type 0} → (A → ℕ) → ℕ → ℕ → List A → Option ℕ
-first_with key k i [] = None
-first_with key k i (x ∷ xs) = cond (key x == k) (Some i) (first_with key k (i + 1) xs)
+-- the place of the first item with the key k
+abbrev pub first_with : {A : Type 0} → (A → ℕ) → ℕ → List A → Option ℕ
+first_with key k xs = position (λ x. key x == k) xs

@@ -3,7 +3,6 @@ ghost use Rattle.std.specs.Prelude.{◌≤◌, length};
 
 mod ask;
 mod fill;
-mod list;
 
 #[derive(Drop)]
 pub struct Row<'a, T> {

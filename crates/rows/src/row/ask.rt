@@ -1,10 +1,9 @@
 // What can be asked of a row. Slots past its count are never looked at.
-ghost use Rattle.std.specs.Prelude.{◌≡◌, ◌-◌, length};
+ghost use Rattle.std.specs.Prelude.{◌≡◌, ◌-◌, length, option_map};
 ghost use Rattle.std.specs.List.{slice_get};
-ghost use Rattle.rows.specs.Rows.{row_of, items_of, first_with, shown};
+ghost use Rattle.rows.specs.Rows.{row_of, items_of, first_with};
 
 use super::Row;
-use super::list::{first_with, item_at};
 use crate::keyed::Keyed;
 
 impl<'a, T> Row<'a, T> {
@@ -28,17 +27,17 @@ impl<'a, T> Row<'a, T> {
     }
 
     pub fn get(&self, n: usize) -> Option<&T>
-        ensures { shown (λ x. x.now) result ≡ slice_get (row_of self.now) n }
+        ensures { option_map (λ x. x.now) result ≡ slice_get (row_of self.now) n }
     {
-        item_at(self.items(), n)
+        self.items().get(n)
     }
 
     // The place of the first item with the key.
     pub fn find(&self, key: usize) -> Option<usize>
     where
         T: Keyed,
-        ensures { result ≡ first_with T.Keyed.keyof key 0 (row_of self.now) }
+        ensures { result ≡ first_with T.Keyed.keyof key (row_of self.now) }
     {
-        first_with(self.items(), key)
+        self.items().iter().position(|item| item.key() == key)
     }
 }
