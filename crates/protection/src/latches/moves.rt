@@ -30,6 +30,7 @@ impl Latches {
     }
 
     // Sets WEL.
+    #[tactic(auto, using(crate::proofs::Latched::same_latches))]
     pub fn enable(&mut self)
         ensures { self.new ≡ enabled self.old }
     {
@@ -37,6 +38,7 @@ impl Latches {
     }
 
     // Sets RWEL where WEL stands.
+    #[tactic(auto, using(crate::proofs::Latched::same_latches))]
     pub fn arm(&mut self)
         ensures { self.new ≡ armed self.old }
     {
