@@ -11,6 +11,7 @@ use Rattle.board.specs.declared.bus.Next.{Next}
 use Rattle.board.specs.declared.bus.Next.TheVariants.{ThenFirst, ThenLater, ThenGiven}
 use Rattle.board.specs.declared.bus.Phase.{Phase}
 use Rattle.board.specs.declared.bus.Phase.TheVariants.{Closed, Deaf, Taking, AckDue, AckPulled, AckRisen, Giving, Released, Wanted}
+use Rattle.board.specs.Samples.{bit_value, odd, levels}
 
 -- A part pulls SDA LOW for its ACK, from the fall after the eighth rise to the fall after the ninth, and for each 0 of a byte that it gives.
 abbrev pub pulls : Phase → Bool
@@ -38,12 +39,9 @@ clean (Giving address rises rest bit) = rises == 1
 clean (Released address) = false
 clean (Wanted address) = false
 
-abbrev pub bit_value : Bool → ℕ
-bit_value true = 1
-bit_value false = 0
-
-abbrev pub odd : ℕ → Bool
-odd n = n % 2 == 1
+-- a byte of a kind, of which no bit has come
+abbrev pub opened : Kind → Phase
+opened kind = Taking kind 0 0
 
 module _ {S : Type 0} where
   -- the board with another phase and part
@@ -99,8 +97,8 @@ module _ {S : Type 0} where
     fetch b a = with b (Giving a 0 (ops.given b.part a % 128 * 2) (nat_le 128 (ops.given b.part a))) (ops.give b.part a)
 
     abbrev pub go_on : Next → Board S → Board S
-    go_on (ThenFirst a) b = with b (Taking (First a) 0 0) b.part
-    go_on (ThenLater a) b = with b (Taking (Later a) 0 0) b.part
+    go_on (ThenFirst a) b = with b (opened (First a)) b.part
+    go_on (ThenLater a) b = with b (opened (Later a)) b.part
     go_on (ThenGiven a) b = fetch b a
 
     -- the next bit of a byte given, with whether there is one; after the eighth SDA is released
@@ -124,7 +122,7 @@ module _ {S : Type 0} where
 
     -- START opens a transfer, and calls off an ACK or a byte still to come
     abbrev pub start : Board S → Board S
-    start b = with b (Taking Address 0 0) (ops.start b.part)
+    start b = with b (opened Address) (ops.start b.part)
 
     -- after a STOP nothing is taken until START
     abbrev pub stop : Board S → Levels → Board S
@@ -166,10 +164,6 @@ module _ {S : Type 0} where
     abbrev pub move : Board S → Bool → Bool → Levels → Board S
     move b scl sda l = settle (lower b.bus.scl scl (level b l)) b.bus.scl b.bus.sda scl sda l
 
-    -- the bits of a sample: SCL, the master's SDA, WP, V2RO, V3RO
-    abbrev pub levels : ℕ → Levels
-    levels x = record { wp = odd (x / 4); v2ro = odd (x / 8); v3ro = odd (x / 16) }
-
     abbrev pub moved : Board S → ℕ → Board S
     moved b x = move b (odd x) (odd (x / 2)) (levels x)
 
@@ -193,6 +187,14 @@ module _ {S : Type 0} where
 
     abbrev pub numbered : Board S → ℕ → Bool
     numbered b k = nat_lt k (ops.count b.part)
+
+    -- whether it has a part of that number, as an answer
+    abbrev pub numbered_by : Bool → Told (Unit {0})
+    numbered_by true = ok tt
+    numbered_by false = refused 2 0
+
+    abbrev pub numbered_told : Board S → ℕ → Told (Unit {0})
+    numbered_told b k = numbered_by (numbered b k)
 
     abbrev pub finished : Board S → ℕ → Board S
     finished b k = finish_by (numbered b k) (ops.busy b.part k) b k

@@ -1,10 +1,11 @@
 // A board: the bus and the part on it. Nothing lends either of them to be changed: only samples and finishes move a board.
 ghost use Rattle.std.specs.Prelude.{◌≡◌};
 ghost use Rattle.refusals.specs.Told.{told};
-ghost use Rattle.board.specs.Engine.{pulls, clean, idle, whole, rise, fetch, go_on, fall, start, stop, move};
-ghost use Rattle.board.specs.Engine.{sampled, sample_told, finished, finish_told, cell_told, tap_told};
+ghost use Rattle.board.specs.Engine.{idle, whole, rise, fetch, go_on, fall, start, stop, move};
+ghost use Rattle.board.specs.Engine.{sampled, sample_told, finished, finish_told, numbered_told, cell_told, tap_told};
 
 use super::bus::{Bus, Kind, Next, Phase};
+use super::sample::Sample;
 use part::Part;
 use part::levels::Levels;
 use refusals::Refusal;
@@ -13,44 +14,6 @@ use refusals::Refusal;
 pub struct Board<P> {
     bus: Bus,
     part: P,
-}
-
-fn pulls(phase: Phase) -> bool
-    ensures { result ≡ pulls phase }
-{
-    match phase {
-        Phase::AckPulled { next: _ } => true,
-        Phase::AckRisen { next: _ } => true,
-        Phase::Giving {
-            address: _,
-            rises: _,
-            rest: _,
-            bit,
-        } => !bit,
-        _ => false,
-    }
-}
-
-fn clean(phase: Phase) -> bool
-    ensures { result ≡ clean phase }
-{
-    match phase {
-        Phase::Taking {
-            kind,
-            bits,
-            byte: _,
-        } => match kind {
-            Kind::Address => false,
-            _ => bits == 1,
-        },
-        Phase::Giving {
-            address: _,
-            rises,
-            rest: _,
-            bit: _,
-        } => rises == 1,
-        _ => false,
-    }
 }
 
 impl<P: Part> Board<P> {
@@ -68,72 +31,26 @@ impl<P: Part> Board<P> {
         Board { bus, part }
     }
 
-    // Gives the board one sample and answers SDA on the wire.
+    // Gives the board one sample by its byte and answers SDA on the wire.
     pub fn sample(&mut self, sample: u8) -> Result<bool, Refusal>
         ensures after { self.new ≡ sampled P.Part.ops self.old sample }
         ensures answer { told (λ x. x) result ≡ sample_told P.Part.ops self.old sample }
     {
-        if sample >= 32 {
-            return Err(Refusal::BadSample);
-        }
-        let levels = Levels {
-            wp: sample / 4 % 2 == 1,
-            v2ro: sample / 8 % 2 == 1,
-            v3ro: sample / 16 % 2 == 1,
-        };
-        Ok(self.step(sample % 2 == 1, sample / 2 % 2 == 1, levels))
+        let sample = Sample::try_from(sample)?;
+        Ok(self.put(sample))
     }
 
-    // Ends the writes under way in a numbered part.
-    pub fn finish(&mut self, part: usize) -> Result<(), Refusal>
-        ensures after { self.new ≡ finished P.Part.ops self.old part }
-        ensures answer { told (λ x. x) result ≡ finish_told P.Part.ops self.old part }
-    {
-        if self.part.past(part).is_some() {
-            return Err(Refusal::NoSuchPart);
-        }
-        if !self.part.busy(part) {
-            return Err(Refusal::NothingUnderWay);
-        }
-        self.part.finish(part);
-        Ok(())
-    }
-
-    // The lasting byte of a cell.
-    pub fn cell(&self, part: usize, n: usize) -> Result<u8, Refusal>
-        ensures { told (λ x. x) result ≡ cell_told P.Part.ops self.now part n }
-    {
-        if self.part.past(part).is_some() {
-            return Err(Refusal::NoSuchPart);
-        }
-        match self.part.cell(part, n) {
-            Some(byte) => Ok(byte),
-            None => Err(Refusal::NoSuchCell),
-        }
-    }
-
-    // Where a wiper stands.
-    pub fn tap(&self, part: usize, n: usize) -> Result<u16, Refusal>
-        ensures { told (λ x. x) result ≡ tap_told P.Part.ops self.now part n }
-    {
-        if self.part.past(part).is_some() {
-            return Err(Refusal::NoSuchPart);
-        }
-        match self.part.tap(part, n) {
-            Some(tap) => Ok(tap),
-            None => Err(Refusal::NoSuchCell),
-        }
-    }
-
-    fn step(&mut self, scl: bool, sda: bool, levels: Levels) -> bool
-        ensures after { self.new ≡ move P.Part.ops self.old scl sda levels }
+    // Gives the board one sample, which it cannot refuse, and answers SDA on the wire.
+    pub fn put(&mut self, sample: Sample) -> bool
+        ensures after { self.new ≡ move P.Part.ops self.old sample.scl sample.sda sample.levels }
         ensures answer { result ≡ self.new.bus.sda }
     {
+        let Sample { scl, sda, levels } = sample;
         self.part.level(levels);
         if self.bus.scl && !scl {
             self.fall();
         }
-        let wire = sda && !pulls(self.bus.phase);
+        let wire = sda && !self.bus.phase.pulls();
         if scl {
             if !self.bus.scl {
                 self.rise(wire, levels);
@@ -148,21 +65,56 @@ impl<P: Part> Board<P> {
         wire
     }
 
+    // Ends the writes under way in a numbered part.
+    pub fn finish(&mut self, part: usize) -> Result<(), Refusal>
+        ensures after { self.new ≡ finished P.Part.ops self.old part }
+        ensures answer { told (λ x. x) result ≡ finish_told P.Part.ops self.old part }
+    {
+        self.numbered(part)?;
+        if !self.part.busy(part) {
+            return Err(Refusal::NothingUnderWay);
+        }
+        self.part.finish(part);
+        Ok(())
+    }
+
+    // The lasting byte of a cell.
+    pub fn cell(&self, part: usize, n: usize) -> Result<u8, Refusal>
+        ensures { told (λ x. x) result ≡ cell_told P.Part.ops self.now part n }
+    {
+        self.numbered(part)?;
+        self.part.cell(part, n).ok_or(Refusal::NoSuchCell)
+    }
+
+    // Where a wiper stands.
+    pub fn tap(&self, part: usize, n: usize) -> Result<u16, Refusal>
+        ensures { told (λ x. x) result ≡ tap_told P.Part.ops self.now part n }
+    {
+        self.numbered(part)?;
+        self.part.tap(part, n).ok_or(Refusal::NoSuchCell)
+    }
+
+    // Refuses a number that no part of the board has.
+    fn numbered(&self, part: usize) -> Result<(), Refusal>
+        ensures { told (λ x. x) result ≡ numbered_told P.Part.ops self.now part }
+    {
+        match self.part.past(part) {
+            None => Ok(()),
+            Some(_) => Err(Refusal::NoSuchPart),
+        }
+    }
+
     fn start(&mut self)
         ensures { self.new ≡ start P.Part.ops self.old }
     {
         self.part.start();
-        self.bus.phase = Phase::Taking {
-            kind: Kind::Address,
-            bits: 0,
-            byte: 0,
-        };
+        self.bus.phase = Phase::opened(Kind::Address);
     }
 
     fn stop(&mut self, levels: Levels)
         ensures { self.new ≡ stop P.Part.ops self.old levels }
     {
-        let ended = clean(self.bus.phase);
+        let ended = self.bus.phase.clean();
         self.part.stop(ended, levels);
         self.bus.phase = Phase::Closed;
     }
@@ -171,8 +123,7 @@ impl<P: Part> Board<P> {
         ensures { self.new ≡ rise P.Part.ops self.old bit levels }
     {
         match self.bus.phase {
-            Phase::Closed => {}
-            Phase::Deaf => {}
+            Phase::Closed | Phase::Deaf => {}
             Phase::Taking { kind, bits, byte } => {
                 let byte = byte % 128 * 2 + bit as u8;
                 if bits < 7 {
@@ -255,7 +206,7 @@ impl<P: Part> Board<P> {
                 address,
                 rises,
                 rest,
-                bit: _,
+                ..
             } => {
                 self.bus.phase = if rises < 8 {
                     let bit = rest >= 128;
@@ -281,20 +232,10 @@ impl<P: Part> Board<P> {
     {
         match next {
             Next::ThenFirst { address } => {
-                let kind = Kind::First { address };
-                self.bus.phase = Phase::Taking {
-                    kind,
-                    bits: 0,
-                    byte: 0,
-                };
+                self.bus.phase = Phase::opened(Kind::First { address });
             }
             Next::ThenLater { address } => {
-                let kind = Kind::Later { address };
-                self.bus.phase = Phase::Taking {
-                    kind,
-                    bits: 0,
-                    byte: 0,
-                };
+                self.bus.phase = Phase::opened(Kind::Later { address });
             }
             Next::ThenGiven { address } => self.fetch(address),
         }

@@ -1,4 +1,6 @@
 // Where the bus stands between two samples.
+ghost use Rattle.std.specs.Prelude.{◌≡◌};
+ghost use Rattle.board.specs.Engine.{pulls, clean, opened};
 
 // What a byte that the master sends is in its transfer.
 #[derive(Clone, Copy, PartialEq, Eq, Debug)]
@@ -56,6 +58,41 @@ pub enum Phase {
     Wanted {
         address: u8,
     },
+}
+
+impl Phase {
+    // The master begins to send a byte.
+    pub(crate) fn opened(kind: Kind) -> Phase
+        ensures { result ≡ opened kind }
+    {
+        Phase::Taking {
+            kind,
+            bits: 0,
+            byte: 0,
+        }
+    }
+
+    // Whether a part pulls SDA LOW.
+    pub(crate) fn pulls(self) -> bool
+        ensures { result ≡ pulls self }
+    {
+        match self {
+            Phase::AckPulled { .. } | Phase::AckRisen { .. } => true,
+            Phase::Giving { bit, .. } => !bit,
+            _ => false,
+        }
+    }
+
+    // Whether a STOP here is clean.
+    pub(crate) fn clean(self) -> bool
+        ensures { result ≡ clean self }
+    {
+        match self {
+            Phase::Taking { kind, bits, .. } => kind != Kind::Address && bits == 1,
+            Phase::Giving { rises, .. } => rises == 1,
+            _ => false,
+        }
+    }
 }
 
 // The levels of the two wires in the last sample, SDA as it was on the wire, and the phase.

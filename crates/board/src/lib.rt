@@ -3,3 +3,4 @@
 
 pub mod board;
 pub mod bus;
+pub mod sample;

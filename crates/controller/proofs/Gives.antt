@@ -3,34 +3,22 @@ use Rattle.std.proofs.Common.{◌≡◌, ℕ, ◌+◌, ◌<◌, ◌≤◌, Bool,
 use mir.Val.{bool_byte}
 use borrow.Author.Tests.{clash}
 use Rattle.std.proofs.lemmas.List.{at_drop_more, at_drop_all}
-use Rattle.std.proofs.lemmas.Bool.{lt-ltb, le-ltb}
+use Rattle.std.proofs.lemmas.List.Folds.{list_all_at}
 use Rattle.refusals.specs.Told.{Told, ok}
 use Rattle.part.specs.Ops.{Ops}
 use Rattle.board.specs.declared.board.Board.{Board}
-use Rattle.board.specs.Engine.{bit_value}
+use Rattle.board.specs.Samples.{bit_value}
 use Rattle.controller.specs.Master.{ended, gives, run}
 use Rattle.controller.specs.Jobs.{giving, all_samples}
 use Rattle.controller.proofs.Runs.{byte_bit}
 
-turn : (xs : List ℕ) (i : ℕ) → i < length xs → all_samples (drop i xs) ≡ cond (ltb (get_or xs i 0) 32) (all_samples (drop (i + 1) xs)) false
-turn xs i h = at_drop_more all_samples xs i 0 h
-
-pub good_more : (xs : List ℕ) (i : ℕ) {t : Bool} → i < length xs → get_or xs i 0 < 32 → all_samples (drop i xs) ≡ t → all_samples (drop (i + 1) xs) ≡ t
-good_more xs i h k e = (rw (lt-ltb (get_or xs i 0) 32 k) at (sym (turn xs i h))) ∙ e
-
-pub good_bad : (xs : List ℕ) (i : ℕ) {t : Bool} → i < length xs → 32 ≤ get_or xs i 0 → all_samples (drop i xs) ≡ t → false ≡ t
-good_bad xs i h k e = (rw (le-ltb (get_or xs i 0) 32 k) at (sym (turn xs i h))) ∙ e
-
-pub good_all : (xs : List ℕ) (i : ℕ) {t : Bool} → length xs ≤ i → all_samples (drop i xs) ≡ t → true ≡ t
-good_all xs i h e = sym (at_drop_all all_samples xs i h) ∙ e
-
 -- where all are good the next one is
-pub good_next : (xs : List ℕ) (i : ℕ) → i < length xs → all_samples (drop i xs) ≡ true → get_or xs i 0 < 32
-good_next xs i h e = by_test (ltb (get_or xs i 0) 32) refl (sym (turn xs i h) ∙ e)
+pub good_next : (xs : List ℕ) (i : ℕ) → i < length xs → all_samples xs ≡ true → get_or xs i 0 < 32
+good_next xs i h e = by_test (ltb (get_or xs i 0) 32) refl
   where
-    by_test : (t : Bool) → ltb (get_or xs i 0) 32 ≡ t → cond t (all_samples (drop (i + 1) xs)) false ≡ true → get_or xs i 0 < 32
-    by_test true p q = ltb-true _ _ p
-    by_test false p q = absurd (clash q)
+    by_test : (t : Bool) → ltb (get_or xs i 0) 32 ≡ t → get_or xs i 0 < 32
+    by_test true p = ltb-true _ _ p
+    by_test false p = absurd (clash (sym (list_all_at (λ x. ltb x 32) xs i 0 h p) ∙ e))
 
 module _ {S : Type 0} (ops : Ops S) where
   pub given_more : (xs : List ℕ) (i : ℕ) (got : List ℕ) (high : Bool) (b c : Board S) {z : Board S × Told (List ℕ)} → i < length xs → run ops (gives (get_or xs i 0) ended) b ≡ (c, high) → run ops (giving (drop i xs) got) b ≡ z → run ops (giving (drop (i + 1) xs) (got ++ (bool_byte high ∷ []))) c ≡ z

@@ -1,13 +1,16 @@
 -- What a run of masters comes to, piece by piece.
-use Rattle.std.proofs.Common.{◌≡◌, ℕ, suc, ◌+◌, ◌-◌, ◌*◌, ◌/◌, ◌%◌, ◌^◌, ◌<◌, ◌≤◌, Bool, true, false, cond, not, ltb, sym, refl, ap, ◌∙◌, pow-suc, add-one, arith, pow_mono}
+use Rattle.std.proofs.Common.{◌≡◌, ℕ, suc, ◌+◌, ◌-◌, ◌*◌, ◌/◌, ◌%◌, ◌^◌, ◌<◌, ◌≤◌, Bool, true, false, cond, not, ltb, Ok, Err, Result, sym, refl, ap, ◌∙◌, pow-suc, add-one, arith, pow_mono}
 use mir.Val.{bool_byte}
 use borrow.Author.Tests.{clash}
-use Rattle.std.proofs.lemmas.Bool.{lt-ltb}
-use Rattle.refusals.specs.Told.{Told, ok, refused}
+use Rattle.std.proofs.lemmas.Bool.{lt-ltb, eq-eqb, ne_eqb}
+use Rattle.std.specs.Result.{result_unwrap_or}
+use Rattle.refusals.specs.declared.Refusal.{Refusal}
+use Rattle.refusals.specs.Told.{Told, ok, refused, told, number, place}
 use Rattle.part.specs.Ops.{Ops}
 use Rattle.part.specs.declared.levels.Levels.{Levels}
 use Rattle.board.specs.declared.board.Board.{Board}
-use Rattle.board.specs.Engine.{sampled, moved, sample_told, bit_value, odd}
+use Rattle.board.specs.Engine.{sampled, moved, move, sample_told}
+use Rattle.board.specs.Samples.{bit_value, odd}
 use Rattle.controller.specs.Master.{Master, ended, gives, ◌then◌, given, reads, run}
 use Rattle.controller.specs.Bytes.{sample_of, send_bit, read_bit, send_bits, read_bits, send, receive}
 
@@ -20,9 +23,30 @@ bit_small true = omega arith
 bit_small false = omega arith
 
 -- every sample of the tool is one that the board takes
-pub sample_small : (l : Levels) (scl sda : Bool) → sample_of l scl sda < 32
+sample_small : (l : Levels) (scl sda : Bool) → sample_of l scl sda < 32
 sample_small l scl sda =
     omega (arith, bit_small scl, bit_small sda, bit_small l.wp, bit_small l.v2ro, bit_small l.v3ro)
+
+-- and its byte has the bits that it was made of
+bit_at : (b : Bool) (n x : ℕ) → x ≡ bit_value b + 2 * n → odd x ≡ b
+bit_at true n x e = eq-eqb (x % 2) 1 (omega (arith, e))
+bit_at false n x e = ne_eqb (x % 2) 1 (λ f. absurd (omega (arith, e, f)))
+
+module _ (l : Levels) (scl sda : Bool) where
+  scl_bit : odd (sample_of l scl sda) ≡ scl
+  scl_bit = bit_at scl (bit_value sda + 2 * bit_value l.wp + 4 * bit_value l.v2ro + 8 * bit_value l.v3ro) _ (omega arith)
+
+  sda_bit : odd (sample_of l scl sda / 2) ≡ sda
+  sda_bit = bit_at sda (bit_value l.wp + 2 * bit_value l.v2ro + 4 * bit_value l.v3ro) _ (omega (arith, bit_small scl))
+
+  wp_bit : odd (sample_of l scl sda / 4) ≡ l.wp
+  wp_bit = bit_at l.wp (bit_value l.v2ro + 2 * bit_value l.v3ro) _ (omega (arith, bit_small scl, bit_small sda))
+
+  v2ro_bit : odd (sample_of l scl sda / 8) ≡ l.v2ro
+  v2ro_bit = bit_at l.v2ro (bit_value l.v3ro) _ (omega (arith, bit_small scl, bit_small sda, bit_small l.wp))
+
+  v3ro_bit : odd (sample_of l scl sda / 16) ≡ l.v3ro
+  v3ro_bit = bit_at l.v3ro 0 _ (omega (arith, bit_small scl, bit_small sda, bit_small l.wp, bit_small l.v2ro))
 
 apart : {X A : Type 0} (a : A) (m n : ℕ) → ◌≡◌ {A = Told A} (ok a) (refused m n) → X
 apart a m n e =
@@ -30,23 +54,29 @@ apart a m n e =
     let f : ⊥ = omega arith in
     absurd f
 
-module _ {S : Type 0} (ops : Ops S) where
-  -- the board after a sample that was answered, and the answer
-  pub answered : (b after : Board S) (x : ℕ) (level : Bool) → after ≡ sampled ops b x → ok level ≡ sample_told ops b x → ◌≡◌ {A = Board S × Bool} (given ops b x, reads ops b x) (after, level)
-  unfolding given reads
-  answered b after x level p q = by_test (ltb x 32) p q
-    where
-      by_test : (t : Bool) → after ≡ cond t (moved ops b x) b → ok level ≡ cond t (ok (moved ops b x).bus.sda) (refused 1 0) → ◌≡◌ {A = Board S × Bool} (cond t (moved ops b x) b, (cond t (moved ops b x) b).bus.sda) (after, level)
-      by_test true e f = let h : (moved ops b x).bus.sda ≡ level = cc in λ i. (sym e i, h i)
-      by_test false e f = apart level 1 0 f
+its_level : (r : Result Bool Refusal) (level : Bool) → told (λ level. level) r ≡ ok level → level ≡ result_unwrap_or r false
+its_level (Ok x) level e = cc
+its_level (Err refusal) level e = apart level (number refusal) (place refusal) (sym e)
 
-  -- a sample of the tool is not refused
-  pub unrefused : {X : Type 0} (b : Board S) (x n p : ℕ) → x < 32 → refused n p ≡ sample_told ops b x → X
-  unrefused b x n p h q = by_test (ltb x 32) (lt-ltb x 32 h) q
-    where
-      by_test : {X : Type 0} (t : Bool) → t ≡ true → refused n p ≡ cond t (ok (moved ops b x).bus.sda) (refused 1 0) → X
-      by_test true e f = apart _ n p (sym f)
-      by_test false e f = absurd (clash e)
+module _ {S : Type 0} (ops : Ops S) where
+  -- the board after a sample of the tool, and the answer
+  pub put_sample : (l : Levels) (scl sda : Bool) (b after : Board S) (level : Bool) → after ≡ move ops b scl sda l → level ≡ after.bus.sda → ◌≡◌ {A = Board S × Bool} (given ops b (sample_of l scl sda), reads ops b (sample_of l scl sda)) (after, level)
+  unfolding given reads
+  put_sample l scl sda b after level e f =
+      let same : moved ops b (sample_of l scl sda) ≡ move ops b scl sda l = λ i.
+          move ops b (scl_bit l scl sda i) (sda_bit l scl sda i) (record { wp = wp_bit l scl sda i; v2ro = v2ro_bit l scl sda i; v3ro = v3ro_bit l scl sda i }) in
+      let h : sampled ops b (sample_of l scl sda) ≡ after = rw (lt-ltb _ 32 (sample_small l scl sda)) (same ∙ sym e) in
+      λ i. (h i, (ap (λ c. c.bus.sda) h ∙ sym f) i)
+
+  -- the board after a sample that is not refused, and the answer
+  pub answered : (b after : Board S) (x : ℕ) (r : Result Bool Refusal) → x < 32 → after ≡ sampled ops b x → told (λ level. level) r ≡ sample_told ops b x → ◌≡◌ {A = Board S × Bool} (given ops b x, reads ops b x) (after, result_unwrap_or r false)
+  unfolding given reads
+  answered b after x r h e f =
+      let t = lt-ltb x 32 h in
+      let g : told (λ level. level) r ≡ ok (moved ops b x).bus.sda = rw t at f in
+      let s : sampled ops b x ≡ moved ops b x = rw t refl in
+      let k : (sampled ops b x).bus.sda ≡ result_unwrap_or r false = ap (λ c. c.bus.sda) s ∙ its_level r _ g in
+      λ i. (sym e i, k i)
 
   -- one master after another
   pub after : {A B : Type 0} (m : Master A) (f : A → Master B) (b : Board S) → run ops (m then f) b ≡ run ops (f (run ops m b).1) (run ops m b).0

@@ -1,14 +1,22 @@
 -- What the runs of the jobs come to, from the runs of their pieces.
-use Rattle.std.proofs.Common.{◌≡◌, ℕ, suc, ◌+◌, ◌-◌, ◌<◌, ◌≤◌, Bool, List, [], ◌∷◌, length, get_or, drop, sym, refl, ap, ◌∙◌, arith}
-use Rattle.refusals.specs.Told.{Told, ok, refused}
+use Rattle.std.proofs.Common.{◌≡◌, ℕ, suc, ◌+◌, ◌-◌, ◌<◌, ◌≤◌, Bool, true, false, List, [], ◌∷◌, length, get_or, drop, Ok, Err, Result, is_ok, is_err, sym, refl, ap, ◌∙◌, arith}
+use borrow.Author.Tests.{clash}
+use Rattle.refusals.specs.declared.Refusal.{Refusal}
+use Rattle.refusals.specs.Told.{Told, ok, refused, told, number, place}
 use Rattle.part.specs.Ops.{Ops}
 use Rattle.part.specs.declared.levels.Levels.{Levels}
 use Rattle.board.specs.declared.board.Board.{Board}
 use Rattle.controller.specs.Master.{ended, ◌then◌, run}
 use Rattle.controller.specs.Bytes.{start, stop, send}
+use Rattle.controller.specs.Transfers.{Sent}
 use Rattle.controller.specs.Jobs.{acked, unless_refused, send_one, send_all, open_with, close, write_byte, read_byte, stop_refused, end_refused, sending, addressing, writing, unless_ready, waiting}
 use Rattle.std.proofs.lemmas.List.{at_drop_more, at_drop_all}
 use Rattle.controller.proofs.Runs.{onward}
+
+-- nothing is said of the count where a byte got no ACK
+pub uncounted : (n count : ℕ) (r : Result (Unit {0}) Refusal) → is_err r ≡ true → Sent n count r
+uncounted n count (Ok x) t = absurd (clash t)
+uncounted n count (Err y) t = tt
 
 module _ {S : Type 0} (ops : Ops S) (l : Levels) where
   pub one_sent : (n x : ℕ) (b c : Board S) (ack : Bool) {t : Told (List ℕ)} → run ops (send l x) b ≡ (c, ack) → acked n ack ≡ t → run ops (send_one l n x) b ≡ (c, t)
@@ -20,20 +28,22 @@ module _ {S : Type 0} (ops : Ops S) (l : Levels) where
   opened n x b c d r t e f = onward ops (start l) (λ _. send_one l n x) b c r e f
 
   -- one more of some bytes, with its ACK
-  pub all_more : (n i : ℕ) (xs : List ℕ) (b c : Board S) {z : Board S × Told (List ℕ)} → i < length xs → run ops (send_one l n (get_or xs i 0)) b ≡ (c, ok []) → run ops (send_all l n (drop i xs)) b ≡ z → run ops (send_all l (n + 1) (drop (i + 1) xs)) c ≡ z
+  pub all_more : (n i : ℕ) (xs : List ℕ) (b c : Board S) (r : Result (Unit {0}) Refusal) {z : Board S × Told (List ℕ)} → i < length xs → is_err r ≡ false → run ops (send_one l n (get_or xs i 0)) b ≡ (c, told (λ _. []) r) → run ops (send_all l n (drop i xs)) b ≡ z → run ops (send_all l (n + 1) (drop (i + 1) xs)) c ≡ z
   unfolding send_all
-  all_more n i xs b c h e f =
+  all_more n i xs b c (Ok x) h t e f =
       sym (onward ops (send_one l n (get_or xs i 0)) (λ t. unless_refused t (send_all l (n + 1) (drop (i + 1) xs))) b c (ok []) e refl)
       ∙ sym (ap (λ m. run ops m b) (at_drop_more (send_all l n) xs i 0 h))
       ∙ f
+  all_more n i xs b c (Err y) h t e f = absurd (clash (sym t))
 
   -- the byte without an ACK ends them
-  pub all_refused : (n i m p : ℕ) (xs : List ℕ) (b c : Board S) {z : Board S × Told (List ℕ)} → i < length xs → run ops (send_one l n (get_or xs i 0)) b ≡ (c, refused m p) → run ops (send_all l n (drop i xs)) b ≡ z → z ≡ (c, refused m p)
+  pub all_refused : (n i : ℕ) (xs : List ℕ) (b c : Board S) (r : Result (Unit {0}) Refusal) {z : Board S × Told (List ℕ)} → i < length xs → is_err r ≡ true → run ops (send_one l n (get_or xs i 0)) b ≡ (c, told (λ _. []) r) → run ops (send_all l n (drop i xs)) b ≡ z → z ≡ (c, told (λ _. []) r)
   unfolding send_all
-  all_refused n i m p xs b c h e f =
+  all_refused n i xs b c (Ok x) h t e f = absurd (clash t)
+  all_refused n i xs b c (Err y) h t e f =
       sym f
       ∙ ap (λ m. run ops m b) (at_drop_more (send_all l n) xs i 0 h)
-      ∙ onward ops (send_one l n (get_or xs i 0)) (λ t. unless_refused t (send_all l (n + 1) (drop (i + 1) xs))) b c (refused m p) e refl
+      ∙ onward ops (send_one l n (get_or xs i 0)) (λ t. unless_refused t (send_all l (n + 1) (drop (i + 1) xs))) b c (refused (number y) (place y)) e refl
 
   pub all_sent : (n i : ℕ) (xs : List ℕ) (b : Board S) {z : Board S × Told (List ℕ)} → length xs ≤ i → run ops (send_all l n (drop i xs)) b ≡ z → z ≡ (b, ok [])
   unfolding send_all
@@ -58,19 +68,21 @@ module _ {S : Type 0} (ops : Ops S) (l : Levels) where
   writes a xs b c d t e f = onward ops (sending l a xs) (close l) b c t e (closes t c d f)
 
   -- one poll more of a wait, which got no ACK
-  pub wait_more : (a n polls m p : ℕ) (b c : Board S) {z : Board S × Told (List ℕ)} → n < polls → run ops (writing l a []) b ≡ (c, refused m p) → run ops (waiting l a (polls - n)) b ≡ z → run ops (waiting l a (polls - (n + 1))) c ≡ z
+  pub wait_more : (a n polls : ℕ) (b c : Board S) (r : Result (Unit {0}) Refusal) {z : Board S × Told (List ℕ)} → n < polls → is_ok r ≡ false → run ops (writing l a []) b ≡ (c, told (λ _. []) r) → run ops (waiting l a (polls - n)) b ≡ z → run ops (waiting l a (polls - (n + 1))) c ≡ z
   unfolding waiting
-  wait_more a n polls m p b c {z} h e f =
+  wait_more a n polls b c (Ok x) {z} h t e f = absurd (clash (sym t))
+  wait_more a n polls b c (Err y) {z} h t e f =
       let q : polls - n ≡ suc (polls - (n + 1)) = omega arith in
       let f' : run ops (waiting l a (suc (polls - (n + 1)))) b ≡ z = rw q at f in
-      sym (onward ops (writing l a []) (λ t. unless_ready t (waiting l a (polls - (n + 1)))) b c (refused m p) e refl) ∙ f'
+      sym (onward ops (writing l a []) (λ t. unless_ready t (waiting l a (polls - (n + 1)))) b c (refused (number y) (place y)) e refl) ∙ f'
 
-  pub wait_ready : (a n polls : ℕ) (b c : Board S) {z : Board S × Told (List ℕ)} → n < polls → run ops (writing l a []) b ≡ (c, ok []) → run ops (waiting l a (polls - n)) b ≡ z → z ≡ (c, ok [])
+  pub wait_ready : (a n polls : ℕ) (b c : Board S) (r : Result (Unit {0}) Refusal) {z : Board S × Told (List ℕ)} → n < polls → is_ok r ≡ true → run ops (writing l a []) b ≡ (c, told (λ _. []) r) → run ops (waiting l a (polls - n)) b ≡ z → z ≡ (c, ok [])
   unfolding waiting
-  wait_ready a n polls b c {z} h e f =
+  wait_ready a n polls b c (Ok x) {z} h t e f =
       let q : polls - n ≡ suc (polls - (n + 1)) = omega arith in
       let f' : run ops (waiting l a (suc (polls - (n + 1)))) b ≡ z = rw q at f in
       sym f' ∙ onward ops (writing l a []) (λ t. unless_ready t (waiting l a (polls - (n + 1)))) b c (ok []) e refl
+  wait_ready a n polls b c (Err y) {z} h t e f = absurd (clash t)
 
   pub wait_over : (a n polls : ℕ) (b : Board S) {z : Board S × Told (List ℕ)} → polls ≤ n → run ops (waiting l a (polls - n)) b ≡ z → z ≡ (b, refused 10 0)
   unfolding waiting

@@ -1,7 +1,7 @@
 -- What the tool's master gives for START, a bit, a byte and STOP, at the levels l of the lines beside the wires.
 use Rattle.std.specs.Prelude.{ℕ, zero, suc, ◌+◌, ◌*◌, ◌/◌, ◌^◌, Bool, true, false, not}
 use Rattle.part.specs.declared.levels.Levels.{Levels}
-use Rattle.board.specs.Engine.{bit_value, odd}
+use Rattle.board.specs.Samples.{bit_value, odd}
 use Rattle.controller.specs.Master.{Master, ended, gives, ◌then◌}
 
 -- the sample byte of some levels

@@ -1,9 +1,10 @@
 -- The jobs as masters, at the levels l of the lines beside the wires: what they give, and what they answer.
 -- An answer is some bytes, or a refusal by its number and its place.
 use Rattle.std.specs.Prelude.{ℕ, zero, suc, ◌+◌, ◌*◌, ◌%◌, Bool, true, false, cond, List, [], ◌∷◌, ◌++◌, length, nat_le, nat_lt}
+use Rattle.std.specs.List.{list_all}
 use Rattle.refusals.specs.Told.{Told, ok, refused}
 use Rattle.part.specs.declared.levels.Levels.{Levels}
-use Rattle.board.specs.Engine.{bit_value}
+use Rattle.board.specs.Samples.{bit_value}
 use Rattle.controller.specs.Master.{Master, ended, gives, ◌then◌}
 use Rattle.controller.specs.Bytes.{start, stop, send, receive}
 
@@ -85,9 +86,9 @@ unfoldable pub giving : List ℕ → List ℕ → Master (Told (List ℕ))
 giving [] got = ended (ok got)
 giving (x ∷ xs) got = gives x (λ high. giving xs (got ++ (bit_value high ∷ [])))
 
+-- the board takes every one of the samples
 abbrev pub all_samples : List ℕ → Bool
-all_samples [] = true
-all_samples (x ∷ xs) = cond (nat_lt x 32) (all_samples xs) false
+all_samples xs = list_all (λ x. nat_lt x 32) xs
 
 -- A job that answers n bytes gives nothing where the caller's row has no room for them all.
 abbrev pub with_room : ℕ → ℕ → Master (Told (List ℕ)) → Master (Told (List ℕ))

@@ -50,15 +50,11 @@ impl Busy {
 pub(super) fn spend(note: Option<Busy>, address: u8) -> Option<Busy>
     ensures { result ≡ after_ready address note }
 {
-    match note {
-        Some(busy) => {
-            if busy.address == address {
-                busy.give_up();
-                None
-            } else {
-                Some(busy)
-            }
-        }
-        None => None,
+    let busy = note?;
+    if busy.address == address {
+        busy.give_up();
+        None
+    } else {
+        Some(busy)
     }
 }

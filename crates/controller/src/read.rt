@@ -52,10 +52,7 @@ pub fn read<P: Part>(
     if row.room() < job.count() as usize {
         return Err(Refusal::NoRoom);
     }
-    let reading = match open_read(board, lines, job.address(), job.aim()) {
-        Ok(reading) => reading,
-        Err(refusal) => return Err(refusal),
-    };
+    let reading = open_read(board, lines, job.address(), job.aim())?;
     let reading = receive_all(reading, board, lines, job.count(), row);
     reading.stop(board, lines).end();
     Ok(())

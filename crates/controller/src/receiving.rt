@@ -38,7 +38,7 @@ pub(super) fn open_read<P: Part>(
 ) -> Result<Reading, Refusal>
     ensures { run P.Part.ops (end_refused levels.now (addressing levels.now address aim.now)) board.old ≡ (board.new, told (λ _. []) result) }
 {
-    if aim.len() == 0 {
+    if aim.is_empty() {
         let (reading, result) = Quiet::new().read(board, levels, address);
         return stop_refused(reading, result, board, levels);
     }

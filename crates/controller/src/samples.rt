@@ -2,7 +2,7 @@
 ghost use Rattle.std.specs.Prelude.{◌≡◌, ℕ, ◌+◌, ◌<◌, ◌≤◌, true, List, [], length, take};
 ghost use Rattle.refusals.specs.Told.{ok, told};
 ghost use Rattle.rows.specs.Rows.{items_of, row_of, first_with, Grown};
-ghost use Rattle.board.specs.Engine.{bit_value};
+ghost use Rattle.board.specs.Samples.{bit_value};
 ghost use Rattle.controller.specs.Answers.{Into, Lasts, room_of};
 ghost use Rattle.controller.specs.Master.{run, gives, ended};
 ghost use Rattle.controller.specs.Jobs.{giving, all_samples, sampling};
@@ -17,22 +17,14 @@ use rows::row::Row;
 fn all_samples(samples: &[u8]) -> bool
     ensures { result ≡ all_samples samples.now }
 {
-    for sample in samples {
-        if *sample >= 32 {
-            return false;
-        }
-    }
-    true
+    samples.iter().all(|sample| *sample < 32)
 }
 
 fn give<P: Part>(board: &mut Board<P>, sample: u8) -> bool
     requires { sample < 32 }
     ensures { run P.Part.ops (gives sample ended) board.old ≡ (board.new, result) }
 {
-    match board.sample(sample) {
-        Ok(level) => level,
-        Err(_) => false,
-    }
+    board.sample(sample).unwrap_or(false)
 }
 
 // Gives the samples and appends the levels read.
@@ -70,7 +62,7 @@ pub fn samples<P: Part>(
 
 // The place in a row of levels of the first that is HIGH, or LOW.
 pub fn first_level(row: &Row<'_, u8>, high: bool) -> Option<usize>
-    ensures { result ≡ first_with (λ level. level) (bit_value high) 0 (row_of row.now) }
+    ensures { result ≡ first_with (λ level. level) (bit_value high) (row_of row.now) }
 {
     row.find(high as usize)
 }

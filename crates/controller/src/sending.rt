@@ -27,9 +27,8 @@ fn send_all<P: Part>(
     for byte in bytes {
         let (next, result) = writing.send(board, levels, *byte);
         writing = next;
-        match result {
-            Ok(()) => {}
-            Err(refusal) => return (writing, Err(refusal)),
+        if result.is_err() {
+            return (writing, result);
         }
     }
     (writing, Ok(()))

@@ -21,9 +21,8 @@ pub(super) fn poll<P: Part>(
     ensures lines { lines.new ≡ lines.old }
 {
     for _n in 0..polls {
-        match write_low(board, lines, address, &[]) {
-            Ok(()) => return Ok(()),
-            Err(_) => {}
+        if write_low(board, lines, address, &[]).is_ok() {
+            return Ok(());
         }
     }
     Err(Refusal::NeverReady)

@@ -1,29 +1,19 @@
 // START, bits, bytes and STOP, sample by sample.
 ghost use Rattle.std.specs.Prelude.{◌≡◌};
 ghost use Rattle.controller.specs.Master.{run};
-ghost use Rattle.controller.specs.Bytes.{sample_of, put, start, stop, send_bit, read_bit, send_bits, read_bits, send, receive};
+ghost use Rattle.controller.specs.Bytes.{put, start, stop, send_bit, read_bit, send_bits, read_bits, send, receive};
 
 use board::board::Board;
+use board::sample::Sample;
 use part::Part;
 use part::levels::Levels;
-
-// The sample byte of some levels.
-fn sample_of(levels: &Levels, scl: bool, sda: bool) -> u8
-    ensures { result ≡ sample_of levels.now scl sda }
-{
-    let lines = 4 * (levels.wp as u8) + 8 * (levels.v2ro as u8) + 16 * (levels.v3ro as u8);
-    scl as u8 + 2 * (sda as u8) + lines
-}
 
 // One sample; answers SDA on the wire.
 fn put<P: Part>(board: &mut Board<P>, levels: &Levels, scl: bool, sda: bool) -> bool
     ensures { run P.Part.ops (put levels.now scl sda) board.old ≡ (board.new, result) }
 {
-    match board.sample(sample_of(levels, scl, sda)) {
-        Ok(level) => level,
-        // The board refuses none of these samples.
-        Err(_) => false,
-    }
+    let levels = *levels;
+    board.put(Sample { scl, sda, levels })
 }
 
 pub(super) fn start<P: Part>(board: &mut Board<P>, levels: &Levels) -> bool

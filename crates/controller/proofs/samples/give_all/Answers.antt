@@ -4,33 +4,31 @@ use Rattle.std.proofs.lemmas.List.{length_push}
 use Rattle.std.proofs.lemmas.Bool.{lt-ltb}
 use Rattle.rows.specs.Rows.{items_of}
 use Rattle.rows.proofs.Growing.{grown_none, grown_more, length_grown}
-use Rattle.controller.proofs.Gives.{good_more, good_next, given_more, given_all}
+use Rattle.controller.proofs.Gives.{good_next, given_more, given_all}
 use Rattle.controller.proofs.samples.give_all.Goals as goal
 
 pub loop-sample-init : goal.loop-sample-init
-loop-sample-init g c = ([], refl, grown_none c.args.row.now, refl, c.requires.0, refl)
+loop-sample-init g c = ([], refl, grown_none c.args.row.now, refl, refl)
 
 pub give-level-requires : goal.give-level-requires
-give-level-requires g c = good_next c.args.samples.now c.loop-sample.sample-index c.loop-sample-test.true c.loop-sample.invariant.4
+give-level-requires g c = good_next c.args.samples.now c.loop-sample.sample-index c.loop-sample-test.true c.requires.0
 
 pub loop-sample-preserved : goal.loop-sample-preserved
 loop-sample-preserved g c =
     let got : List ℕ = c.loop-sample.invariant.0 in
     let grown = c.loop-sample.invariant.2 in
     let same = length_grown c.args.row.now c.loop-sample.row got grown in
-    let room : c.loop-sample.row.count < length (items_of c.loop-sample.row) = omega (arith, same, grown.count, c.loop-sample.invariant.1, c.requires.1) in
-    let small = good_next c.args.samples.now c.loop-sample.sample-index c.loop-sample-test.true c.loop-sample.invariant.4 in (
+    let room : c.loop-sample.row.count < length (items_of c.loop-sample.row) = omega (arith, same, grown.count, c.loop-sample.invariant.1, c.requires.1) in (
       got ++ (bool_byte c.give-level.result ∷ []),
       length_push got (bool_byte c.give-level.result) ∙ ap (λ n. n + 1) c.loop-sample.invariant.1,
       grown_more c.args.row.now c.loop-sample.row c.append.new.self got _ grown (lt-ltb _ _ room) c.append.ensures.count c.append.ensures.items,
       c.append.ensures.lender ∙ c.loop-sample.invariant.3,
-      good_more c.args.samples.now c.loop-sample.sample-index c.loop-sample-test.true small c.loop-sample.invariant.4,
-      given_more g.P.Part.ops c.args.samples.now c.loop-sample.sample-index got c.give-level.result c.loop-sample.board _ c.loop-sample-test.true c.give-level.ensures c.loop-sample.invariant.5,
+      given_more g.P.Part.ops c.args.samples.now c.loop-sample.sample-index got c.give-level.result c.loop-sample.board _ c.loop-sample-test.true c.give-level.ensures c.loop-sample.invariant.4,
     )
 
 pub returns : goal.returns
 returns g c =
     record {
-      run = (c.loop-sample.invariant.0, omega (arith, c.loop-sample.invariant.1, c.loop-sample-test.false, c.loop-sample.auto.sample-index-end), c.loop-sample.invariant.2, given_all g.P.Part.ops c.args.samples.now c.loop-sample.sample-index c.loop-sample.invariant.0 c.loop-sample.board c.loop-sample-test.false c.loop-sample.invariant.5);
+      run = (c.loop-sample.invariant.0, omega (arith, c.loop-sample.invariant.1, c.loop-sample-test.false, c.loop-sample.auto.sample-index-end), c.loop-sample.invariant.2, given_all g.P.Part.ops c.args.samples.now c.loop-sample.sample-index c.loop-sample.invariant.0 c.loop-sample.board c.loop-sample-test.false c.loop-sample.invariant.4);
       lender = c.loop-sample.invariant.3;
     }

@@ -1,18 +1,18 @@
-use Rattle.std.proofs.Common.{◌≡◌, ◌+◌, [], drop, ap, ◌∙◌, arith}
-use Rattle.refusals.specs.Told.{told}
+use Rattle.std.proofs.Common.{◌≡◌, ◌+◌, drop, sym, ap, ◌∙◌, arith}
 use Rattle.controller.specs.Master.{run}
 use Rattle.controller.specs.Jobs.{send_all}
-use Rattle.controller.proofs.Sends.{all_more, all_refused, all_sent}
+use Rattle.controller.proofs.Sends.{all_more, all_refused, all_sent, uncounted}
 use Rattle.controller.proofs.sending.send_all.Goals as goal
 
-pub returns-in-Err : goal.returns-in-Err
-returns-in-Err g c =
-    record { run = all_refused g.P.Part.ops c.args.levels.now c.loop-byte.writing.sent c.loop-byte.byte-index _ _ c.args.bytes.now c.loop-byte.board _ c.loop-byte-test.true (c.send-result.ensures.run ∙ ap (λ r. (c.send-result.new.board, told (λ _. []) r)) c.in-Err.is) c.loop-byte.invariant.1; count = tt }
+pub returns-then-is_err : goal.returns-then-is_err
+returns-then-is_err g c =
+    let err = sym c.is_err.ensures.value ∙ c.if-is_err.true in
+    record { run = all_refused g.P.Part.ops c.args.levels.now c.loop-byte.writing.sent c.loop-byte.byte-index c.args.bytes.now c.loop-byte.board _ _ c.loop-byte-test.true err c.send-result.ensures.run c.loop-byte.invariant.1; count = uncounted _ _ _ err }
 
 pub loop-byte-preserved : goal.loop-byte-preserved
 loop-byte-preserved g c =
     let one : c.send-result.result.0.sent ≡ c.loop-byte.writing.sent + 1 = omega (arith, c.send-result.ensures.count, c.loop-byte.invariant.0, c.requires) in
-    let more = all_more g.P.Part.ops c.args.levels.now c.loop-byte.writing.sent c.loop-byte.byte-index c.args.bytes.now c.loop-byte.board _ c.loop-byte-test.true (c.send-result.ensures.run ∙ ap (λ r. (c.send-result.new.board, told (λ _. []) r)) c.in-Ok.is) c.loop-byte.invariant.1 in
+    let more = all_more g.P.Part.ops c.args.levels.now c.loop-byte.writing.sent c.loop-byte.byte-index c.args.bytes.now c.loop-byte.board _ _ c.loop-byte-test.true (sym c.is_err.ensures.value ∙ c.if-is_err.false) c.send-result.ensures.run c.loop-byte.invariant.1 in
     (omega (arith, one, c.loop-byte.invariant.0), ap (λ n. run g.P.Part.ops (send_all c.args.levels.now n (drop (c.loop-byte.byte-index + 1) c.args.bytes.now)) c.send-result.new.board) one ∙ more)
 
 pub returns : goal.returns
