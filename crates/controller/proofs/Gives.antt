@@ -1,5 +1,5 @@
 -- Samples given one after another: whether the board takes them all, and what their run comes to.
-use Rattle.std.proofs.Common.{◌≡◌, ℕ, ◌+◌, ◌<◌, ◌≤◌, Bool, true, false, cond, ltb, List, [], ◌∷◌, ◌++◌, length, get_or, drop, sym, refl, ap, ◌∙◌, ltb-true}
+use Rattle.std.proofs.Common.{◌≡◌, ℕ, ◌+◌, ◌<◌, ◌≤◌, Bool, true, false, ltb, List, [], ◌∷◌, ◌++◌, length, get_or, drop, sym, refl, ap, ◌∙◌, ltb-true}
 use mir.Val.{bool_byte}
 use borrow.Author.Tests.{clash}
 use Rattle.std.proofs.lemmas.List.{at_drop_more, at_drop_all}

@@ -1,7 +1,6 @@
 -- What a run of masters comes to, piece by piece.
-use Rattle.std.proofs.Common.{◌≡◌, ℕ, suc, ◌+◌, ◌-◌, ◌*◌, ◌/◌, ◌%◌, ◌^◌, ◌<◌, ◌≤◌, Bool, true, false, cond, not, ltb, Ok, Err, Result, sym, refl, ap, ◌∙◌, pow-suc, add-one, arith, pow_mono}
+use Rattle.std.proofs.Common.{◌≡◌, ℕ, suc, ◌+◌, ◌-◌, ◌*◌, ◌/◌, ◌%◌, ◌^◌, ◌<◌, ◌≤◌, Bool, true, false, not, Ok, Err, Result, sym, refl, ap, ◌∙◌, pow-suc, add-one, arith, pow_mono}
 use mir.Val.{bool_byte}
-use borrow.Author.Tests.{clash}
 use Rattle.std.proofs.lemmas.Bool.{lt-ltb, eq-eqb, ne_eqb}
 use Rattle.std.specs.Result.{result_unwrap_or}
 use Rattle.refusals.specs.declared.Refusal.{Refusal}
@@ -64,7 +63,7 @@ module _ {S : Type 0} (ops : Ops S) where
   unfolding given reads
   put_sample l scl sda b after level e f =
       let same : moved ops b (sample_of l scl sda) ≡ move ops b scl sda l = λ i.
-          move ops b (scl_bit l scl sda i) (sda_bit l scl sda i) (record { wp = wp_bit l scl sda i; v2ro = v2ro_bit l scl sda i; v3ro = v3ro_bit l scl sda i }) in
+      move ops b (scl_bit l scl sda i) (sda_bit l scl sda i) (record { wp = wp_bit l scl sda i; v2ro = v2ro_bit l scl sda i; v3ro = v3ro_bit l scl sda i }) in
       let h : sampled ops b (sample_of l scl sda) ≡ after = rw (lt-ltb _ 32 (sample_small l scl sda)) (same ∙ sym e) in
       λ i. (h i, (ap (λ c. c.bus.sda) h ∙ sym f) i)
 

@@ -9,6 +9,7 @@ use part::Part;
 use part::levels::Levels;
 
 // One sample; answers SDA on the wire.
+#[tactic(auto, using(crate::proofs::Runs::put_sample))]
 fn put<P: Part>(board: &mut Board<P>, levels: &Levels, scl: bool, sda: bool) -> bool
     ensures { run P.Part.ops (put levels.now scl sda) board.old ≡ (board.new, result) }
 {
@@ -16,6 +17,7 @@ fn put<P: Part>(board: &mut Board<P>, levels: &Levels, scl: bool, sda: bool) -> 
     board.put(Sample { scl, sda, levels })
 }
 
+#[tactic(auto, unfolding(crate::specs::Bytes::start))]
 pub(super) fn start<P: Part>(board: &mut Board<P>, levels: &Levels) -> bool
     ensures { run P.Part.ops (start levels.now) board.old ≡ (board.new, result) }
 {
@@ -25,6 +27,7 @@ pub(super) fn start<P: Part>(board: &mut Board<P>, levels: &Levels) -> bool
     put(board, levels, false, false)
 }
 
+#[tactic(auto, unfolding(crate::specs::Bytes::stop))]
 pub(super) fn stop<P: Part>(board: &mut Board<P>, levels: &Levels) -> bool
     ensures { run P.Part.ops (stop levels.now) board.old ≡ (board.new, result) }
 {

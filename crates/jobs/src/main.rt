@@ -8,7 +8,7 @@ use part::levels::Levels;
 use refusals::Refusal;
 use rows::row::Row;
 use runner::line::line;
-use runner::result::{JobResult, Outcome};
+use runner::result::{Done, JobResult, Refused};
 use runner::room::room_for;
 use runner::run::run_file;
 use std::io::Read;
@@ -19,10 +19,10 @@ const MOST: usize = 4096;
 // A longer input is not run: it has this one line.
 const TOO_LONG: JobResult = JobResult {
     number: 0,
-    outcome: Outcome::Refused {
+    outcome: Err(Refused {
         refusal: Refusal::OutOfLimit,
         place: MOST,
-    },
+    }),
 };
 
 // The bytes of the input, up to one more than a job file may have.
@@ -42,7 +42,7 @@ fn run(rt: &HostRuntime, file: &[u8]) -> anyhow::Result<()> {
     let room = room_for(file);
     let blank = JobResult {
         number: 0,
-        outcome: Outcome::Done { from: 0, count: 0 },
+        outcome: Ok(Done { from: 0, count: 0 }),
     };
     let mut results = vec![in rt.alloc(); blank; room.results]?;
     let mut bytes = vec![in rt.alloc(); 0u8; room.bytes]?;

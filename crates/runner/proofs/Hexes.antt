@@ -1,19 +1,24 @@
-use Rattle.std.proofs.Common.{◌≡◌, ℕ, zero, suc, ◌+◌, ◌/◌, ◌%◌, ◌<◌, List, [], ◌∷◌, ◌++◌, length, get_or, take, refl, ap, append_assoc, le_of_suc-le-suc, not-suc-le-zero, add-one}
+-- The hex text of bytes, as the library writes it. Assumes nothing.
+use Rattle.std.proofs.Common.{◌≡◌, ℕ, suc, ◌/◌, ◌%◌, ◌<◌, List, [], ◌∷◌, slice_index, map, refl, ap, ◌∙◌, arith}
+use mir.Val.{Fits}
+use mir.Syntax.{w8}
+use Rattle.std.specs.List.{range_with_len}
+use Rattle.std.proofs.lemmas.List.FromFn.{get_or-map-range_with_len}
+use Rattle.hex.specs.Hex.{encode_lower, encode_with, lower_digits}
 use Rattle.runner.specs.Lines.{hex_digit, hexes}
 
-abbrev pub pair : ℕ → List ℕ
-pair x = hex_digit (x / 16) ∷ hex_digit (x % 16) ∷ []
+digits : lower_digits ≡ map hex_digit (range_with_len 0 16)
+digits = refl
 
-more' : (xs : List ℕ) (i : ℕ) → i < length xs → hexes (take (suc i) xs) ≡ hexes (take i xs) ++ pair (get_or xs i 0)
-more' [] i h = absurd (not-suc-le-zero h)
-more' (x ∷ xs) zero h = refl
-more' (x ∷ xs) (suc i) h = ap (λ (r : List ℕ). hex_digit (x / 16) ∷ hex_digit (x % 16) ∷ r) (more' xs i (le_of_suc-le-suc h))
+digit : (n : ℕ) → n < 16 → slice_index lower_digits n ≡ hex_digit n
+digit n h = ap (λ xs. slice_index xs n) digits ∙ get_or-map-range_with_len hex_digit 0 16 n n 0 h (omega arith)
 
-pub hexes_more : (xs : List ℕ) (i : ℕ) → i < length xs → hexes (take (i + 1) xs) ≡ hexes (take i xs) ++ pair (get_or xs i 0)
-hexes_more xs i h = rw add-one (more' xs i h)
-
-pub two_more : (xs : List ℕ) (i : ℕ) (t u v : List ℕ) → i < length xs → t ≡ hexes (take i xs) → u ≡ t ++ (hex_digit (get_or xs i 0 / 16) ∷ []) → v ≡ u ++ (hex_digit (get_or xs i 0 % 16) ∷ []) → v ≡ hexes (take (i + 1) xs)
-two_more xs i t u v h p q r =
-    let m = hexes_more xs i h in
-    let a = append_assoc t (hex_digit (get_or xs i 0 / 16) ∷ []) (hex_digit (get_or xs i 0 % 16) ∷ []) in
+pub same_hexes : (xs : List ℕ) → ((i : ℕ) → Fits w8 (slice_index xs i)) → encode_lower xs ≡ hexes xs
+unfolding encode_with
+same_hexes [] h = refl
+same_hexes (x ∷ xs) h =
+    let fits = h 0 in
+    let high = digit (x / 16) (omega (arith, fits)) in
+    let low = digit (x % 16) (omega arith) in
+    let rest = same_hexes xs (λ i. h (suc i)) in
     cc

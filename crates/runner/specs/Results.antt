@@ -1,12 +1,12 @@
 -- The results of a file as they stand in the caller's row.
-use Rattle.std.specs.Prelude.{◌≡◌, ℕ, ◌+◌, ◌-◌, Bool, true, false, ◌&&◌, List, [], ◌∷◌, map, length, nat_le}
+use Rattle.std.specs.Prelude.{◌≡◌, ℕ, ◌+◌, ◌-◌, Bool, true, false, ◌&&◌, List, [], ◌∷◌, map, length, Ok, Err, Result, nat_le}
 use Rattle.refusals.specs.Told.{Told, ok, refused, number}
 use Rattle.rows.specs.declared.row.Row.{Row}
 use Rattle.rows.specs.Rows.{Grown, items_of}
 use Rattle.board.specs.declared.board.Board.{Board}
 use Rattle.runner.specs.declared.result.JobResult.{JobResult}
-use Rattle.runner.specs.declared.result.Outcome.{Outcome}
-use Rattle.runner.specs.declared.result.Outcome.TheVariants.{Done, Refused}
+use Rattle.runner.specs.declared.result.Done.{Done}
+use Rattle.runner.specs.declared.result.Refused.{Refused}
 use Rattle.runner.specs.FileJobs.{FileJob, all_answers}
 use Rattle.runner.specs.Runs.{all_bytes}
 
@@ -15,9 +15,9 @@ pub data Seen : Type 0 where
   done : (from count : ℕ) → Seen
   no : (refusal place : ℕ) → Seen
 
-abbrev pub seen : Outcome → Seen
-seen (Done from count) = done from count
-seen (Refused refusal place) = no (number refusal) place
+abbrev pub seen : Result Done Refused → Seen
+seen (Ok bytes) = done bytes.from bytes.count
+seen (Err why) = no (number why.refusal) why.place
 
 abbrev pub shown : JobResult → ℕ × Seen
 shown result = (result.number, seen result.outcome)

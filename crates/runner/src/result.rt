@@ -4,18 +4,25 @@ ghost use Rattle.std.specs.Prelude.{◌≡◌};
 use refusals::Refusal;
 use rows::keyed::Keyed;
 
-#[derive(Clone, Copy)]
-pub enum Outcome {
-    // The answered bytes stand in the byte list, `count` of them from `from` on.
-    Done { from: usize, count: usize },
-    Refused { refusal: Refusal, place: usize },
+// The answered bytes stand in the byte list, `count` of them from `from` on.
+#[derive(Clone, Copy, PartialEq, Eq, Debug)]
+pub struct Done {
+    pub from: usize,
+    pub count: usize,
+}
+
+// Why a job was refused, and the place that is told with it.
+#[derive(Clone, Copy, PartialEq, Eq, Debug)]
+pub struct Refused {
+    pub refusal: Refusal,
+    pub place: usize,
 }
 
 // The jobs of a file are numbered from 1.
-#[derive(Clone, Copy)]
+#[derive(Clone, Copy, PartialEq, Eq, Debug)]
 pub struct JobResult {
     pub number: usize,
-    pub outcome: Outcome,
+    pub outcome: Result<Done, Refused>,
 }
 
 // A result is found by its job's number.

@@ -11,7 +11,7 @@ ghost use Rattle.runner.specs.FileJobs.{answers, job_answers, decoded, Next, fil
 ghost use Rattle.runner.specs.Results.{Listed, seen, seen_between, fits, Filed, FileRun};
 ghost use Rattle.runner.specs.Runs.{job_run, file_job_run, ran, bytes_of, Within};
 
-use super::result::{JobResult, Outcome};
+use super::result::{Done, JobResult, Refused};
 use super::room::room_for;
 use board::board::Board;
 use controller::note::Busy;
@@ -72,20 +72,16 @@ fn run_job<P: Part>(
 }
 
 // What became of a job whose bytes, if any, stand from `from` on.
-fn outcome(answer: Result<(), Refusal>, from: usize, to: usize) -> Outcome
+fn outcome(answer: Result<(), Refusal>, from: usize, to: usize) -> Result<Done, Refused>
     requires { from ≤ to }
     ensures { seen result ≡ seen_between from to (told (λ x. x) answer) }
 {
-    match answer {
-        Ok(()) => Outcome::Done {
-            from,
-            count: to - from,
-        },
-        Err(refusal) => Outcome::Refused {
-            refusal,
-            place: refusal.place(),
-        },
-    }
+    let count = to - from;
+    let place = |refusal: Refusal| Refused {
+        refusal,
+        place: refusal.place(),
+    };
+    answer.map(|()| Done { from, count }).map_err(place)
 }
 
 // Runs the job at `at` and appends its result. Answers the offset of the next job, or the end of the file where there is none.
@@ -120,7 +116,7 @@ fn run_next<P: Part>(
             (next, note)
         }
         Err(refusal) => {
-            let outcome = Outcome::Refused { refusal, place: at };
+            let outcome = Err(Refused { refusal, place: at });
             let _ = results.append(JobResult { number, outcome });
             (file.len(), note)
         }
@@ -181,7 +177,7 @@ pub fn run_file<P: Part>(
 
 // What became of the job with the number.
 pub fn result_of(results: &Row<'_, JobResult>, number: usize) -> Option<usize>
-    ensures { result ≡ first_with (λ job. job.number) number 0 (row_of results.now) }
+    ensures { result ≡ first_with (λ job. job.number) number (row_of results.now) }
 {
     results.find(number)
 }

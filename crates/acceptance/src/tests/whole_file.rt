@@ -5,14 +5,14 @@ use ds1846::state::Ds1846;
 use refusals::Refusal;
 use rows::row::Row;
 use runner::line::line;
-use runner::result::{JobResult, Outcome};
+use runner::result::{Done, JobResult};
 use runner::run::{result_of, run_file};
 use std::process::Abort;
 use std::test::Fail;
 
 const BLANK: JobResult = JobResult {
     number: 0,
-    outcome: Outcome::Done { from: 0, count: 0 },
+    outcome: Ok(Done { from: 0, count: 0 }),
 };
 
 #[test]

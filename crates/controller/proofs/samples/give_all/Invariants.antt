@@ -1,7 +1,7 @@
-use Rattle.std.proofs.Common.{◌≡◌, ℕ, true, List, [], length, drop}
+use Rattle.std.proofs.Common.{◌≡◌, ℕ, List, [], length, drop}
 use Rattle.rows.specs.Rows.{Grown}
 use Rattle.controller.specs.Master.{run}
-use Rattle.controller.specs.Jobs.{giving, all_samples}
+use Rattle.controller.specs.Jobs.{giving}
 use Rattle.controller.proofs.samples.give_all.Given as goal
 
 abbrev pub invariant-loop-sample : goal.invariant-loop-sample
