@@ -1,5 +1,5 @@
 // The fields of a job: numbers and bytes.
-ghost use Rattle.std.specs.Prelude.{◌≡◌, ◌+◌, ◌<◌, ◌≤◌, length, take, Ok, Err};
+ghost use Rattle.std.specs.Prelude.{◌≡◌, ◌+◌, ◌<◌, ◌≤◌, length, Ok, Err};
 ghost use Rattle.refusals.specs.Told.{told};
 ghost use Rattle.jobfile.specs.Fields.{number_from, number_at, field_at, counted_at, counted_bytes};
 ghost use Rattle.jobfile.specs.Offsets.{Onward, Limited, Inside};
@@ -61,16 +61,4 @@ pub(crate) fn counted(file: &[u8], at: usize, most: u32) -> Result<(&[u8], usize
         return Err(Refusal::FileEnds);
     }
     Ok((&file[at..at + n], at))
-}
-
-// At most the first `most` bytes.
-pub(crate) fn front(bytes: &[u8], most: usize) -> &[u8]
-    ensures value { result.now ≡ take most bytes.now }
-    ensures limit { length result.now ≤ most }
-{
-    if bytes.len() > most {
-        &bytes[..most]
-    } else {
-        bytes
-    }
 }
