@@ -10,6 +10,7 @@ mod decode;
 mod fields;
 pub mod finish;
 pub mod job;
+pub mod jobs;
 mod kind;
 pub mod read;
 pub mod samples;
