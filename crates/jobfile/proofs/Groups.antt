@@ -30,3 +30,5 @@ unfolding number_from
 at_third i v xs h k l =
     let e : 3 - i ≡ 1 = omega arith in
     rw (e, drop-cons xs i 0 k, le-ltb (get_or xs i 0) 128 l)
+
+pub ruleset groups = (at_end, at_last, at_more, at_third)

@@ -43,3 +43,5 @@ last_job file at r p h e =
 
 pub no_job : (file : List ℕ) (at : ℕ) → length file ≤ at → jobs_at file at ≡ []
 no_job file at h = none_from file _ at h
+
+pub ruleset turns = (next_job, last_job, no_job)

@@ -7,6 +7,7 @@ ghost use Rattle.jobfile.specs.Offsets.{Onward};
 use refusals::Refusal;
 
 // The number that the rest of the file begins with, and how many bytes it took.
+#[tactic(auto, using(crate::proofs::Groups::groups))]
 pub(crate) fn number(rest: &[u8]) -> Result<(u32, usize), Refusal>
     ensures value { told (λ p. p) result ≡ number_from 3 0 0 rest.now }
     ensures onward { Onward 0 (length rest.now) result }

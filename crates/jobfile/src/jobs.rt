@@ -31,6 +31,7 @@ impl<'a> Iterator for Jobs<'a> {
 
     ghost remaining = { item_count left };
 
+    #[tactic(auto, using(crate::proofs::Turns::turns))]
     fn next(&mut self) -> Option<(usize, Result<Job<'a>, Refusal>)> {
         let at = self.at;
         if at >= self.file.len() {
