@@ -1,10 +1,10 @@
 -- The jobs of a file from an offset on.
-use Rattle.std.proofs.Common.{◌≡◌, ℕ, zero, suc, ◌+◌, ◌-◌, ◌<◌, ◌≤◌, cond, ltb, List, [], ◌∷◌, length, sym, refl, ap, ◌∙◌, arith}
+use Rattle.std.proofs.Common.{◌≡◌, ℕ, zero, suc, ◌+◌, ◌-◌, ◌<◌, ◌≤◌, Bool, true, false, cond, ltb, List, [], ◌∷◌, length, sym, refl, ap, ◌∙◌, arith}
 use Rattle.std.proofs.lemmas.Bool.{lt-ltb, le-ltb}
 use Rattle.refusals.specs.Told.{Told, ok, refused}
 use Rattle.jobfile.specs.Said.{Said}
 use Rattle.jobfile.specs.Jobs.{job_at}
-use Rattle.jobfile.specs.FileJobs.{FileJob, job_then, jobs_from}
+use Rattle.jobfile.specs.FileJobs.{FileJob, job_then, jobs_from, file_jobs}
 use Rattle.jobfile.specs.Left.{jobs_at}
 use Rattle.jobfile.proofs.Past.{Past, job_past}
 
@@ -43,5 +43,19 @@ last_job file at r p h e =
 
 pub no_job : (file : List ℕ) (at : ℕ) → length file ≤ at → jobs_at file at ≡ []
 no_job file at h = none_from file _ at h
+
+one_more : (t : Bool) (job : Told (Said × ℕ)) (at n : ℕ) (f : ℕ → List FileJob) → ((next : ℕ) → length (f next) ≤ n) → length (cond t (job_then job at f) []) ≤ suc n
+one_more true (ok job) at n f h = let l = h job.1 in omega arith
+one_more true (refused r p) at n f h = omega arith
+one_more false job at n f h = omega arith
+
+-- no more jobs than may yet come
+few : (file : List ℕ) (n at : ℕ) → length (jobs_from n file at) ≤ n
+unfolding jobs_from
+few file zero at = omega arith
+few file (suc n) at = one_more (ltb at (length file)) (job_at file at) at n (jobs_from n file) (few file n)
+
+pub few_jobs : (file : List ℕ) → length (file_jobs file) ≤ length file
+few_jobs file = few file (length file) 0
 
 pub ruleset turns = (next_job, last_job, no_job)

@@ -2,7 +2,7 @@ use Rattle.std.proofs.Common.{ℕ, ◌≤◌, List, length, sym, refl, ap, ◌�
 use Rattle.jobfile.specs.Jobs.{said}
 use Rattle.controller.specs.Answers.{room_of}
 use Rattle.controller.specs.Jobs.{reading}
-use Rattle.runner.specs.FileJobs.{answers}
+use Rattle.runner.specs.Sizes.{answers}
 use Rattle.runner.specs.Runs.{job_run, Within}
 use Rattle.runner.proofs.Answering.{without_bytes, none_within, same_into, lasts_within, called, enough_room, enough_samples}
 use Rattle.runner.proofs.run.run_job.Goals as goal
