@@ -43,12 +43,12 @@ module _ {S : Type 0} (ops : Ops S) (l : Levels) (jobs : List FileJob) (b₀ : B
     pub bytes_room : bytes₀.count + (length (all_bytes answers) + all_answers left) ≤ length (items_of bytes₀)
 
   -- at the start
-  pub so_far_none : (left : List FileJob) → left ≡ jobs → results₀.count + length jobs ≤ length (items_of results₀) → bytes₀.count + all_answers jobs ≤ length (items_of bytes₀) → SoFar 0 left b₀ results₀ bytes₀
-  so_far_none left e h k =
+  pub so_far_none : (number : ℕ) (left : List FileJob) → number ≡ 0 → left ≡ jobs → results₀.count + length jobs ≤ length (items_of results₀) → bytes₀.count + all_answers jobs ≤ length (items_of bytes₀) → SoFar number left b₀ results₀ bytes₀
+  so_far_none number left none e h k =
       record {
         answers = [];
-        count = refl;
-        all = omega (arith, ap length e);
+        count = sym none;
+        all = omega (arith, none, ap length e);
         whole = ap (λ js. ran ops l js b₀) (sym e);
         filed = record { listed_as = ([], grown_none results₀, refl); bytes_as = grown_none bytes₀ };
         results_room = h;

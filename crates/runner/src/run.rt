@@ -142,11 +142,9 @@ fn run_jobs<P: Part>(
     ensures results_lender { results.new.items.ghost_name ≡ results.old.items.ghost_name }
     ensures bytes_lender { bytes.new.items.ghost_name ≡ bytes.old.items.ghost_name }
 {
-    let mut number = 0;
     let mut note: Option<Busy> = None;
-    for (at, job) in Jobs::new(file) {
-        number += 1;
-        note = run_next(board, lines, at, job, number, note, results, bytes);
+    for (before, (at, job)) in Jobs::new(file).enumerate() {
+        note = run_next(board, lines, at, job, before + 1, note, results, bytes);
     }
     if let Some(busy) = note {
         busy.give_up();
