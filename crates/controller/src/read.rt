@@ -1,5 +1,5 @@
 // The read job.
-ghost use Rattle.std.specs.Prelude.{◌≡◌, ℕ, ◌+◌, ◌≤◌, max, List, [], length};
+ghost use Rattle.std.specs.Prelude.{◌≡◌, ℕ, ◌+◌, ◌≤◌, List, [], length};
 ghost use Rattle.refusals.specs.Told.{ok, told};
 ghost use Rattle.jobfile.specs.Said.{shown_read};
 ghost use Rattle.rows.specs.Rows.{items_of, Grown};
@@ -46,7 +46,7 @@ pub fn read<P: Part>(
     row: &mut Row<'_, u8>,
 ) -> Result<(), Refusal>
     ensures run { Into (run P.Part.ops (master_of lines.now (room_of row.old) (shown_read job.now)) board.old) board.new row.old row.new (told (λ x. x) result) }
-    ensures count { Lasts (max 1 job.now.count) (run P.Part.ops (master_of lines.now (room_of row.old) (shown_read job.now)) board.old).1 }
+    ensures count { Lasts job.now.count (run P.Part.ops (master_of lines.now (room_of row.old) (shown_read job.now)) board.old).1 }
     ensures lender { row.new.items.ghost_name ≡ row.old.items.ghost_name }
 {
     if row.room() < job.count() as usize {

@@ -1,5 +1,5 @@
 // The samples job.
-ghost use Rattle.std.specs.Prelude.{◌≡◌, ℕ, ◌+◌, ◌<◌, ◌≤◌, true, List, [], length, take};
+ghost use Rattle.std.specs.Prelude.{◌≡◌, ℕ, ◌+◌, ◌<◌, ◌≤◌, true, List, [], length};
 ghost use Rattle.refusals.specs.Told.{ok, told};
 ghost use Rattle.rows.specs.Rows.{items_of, row_of, first_with, Grown};
 ghost use Rattle.board.specs.Samples.{bit_value};
@@ -45,8 +45,8 @@ pub fn samples<P: Part>(
     job: &Samples<'_>,
     row: &mut Row<'_, u8>,
 ) -> Result<(), Refusal>
-    ensures run { Into (run P.Part.ops (sampling (take 255 job.now.bytes.now) (room_of row.old)) board.old) board.new row.old row.new (told (λ x. x) result) }
-    ensures count { Lasts (length (take 255 job.now.bytes.now)) (run P.Part.ops (sampling (take 255 job.now.bytes.now) (room_of row.old)) board.old).1 }
+    ensures run { Into (run P.Part.ops (sampling job.now.bytes.now (room_of row.old)) board.old) board.new row.old row.new (told (λ x. x) result) }
+    ensures count { Lasts (length job.now.bytes.now) (run P.Part.ops (sampling job.now.bytes.now (room_of row.old)) board.old).1 }
     ensures lender { row.new.items.ghost_name ≡ row.old.items.ghost_name }
 {
     let samples = job.bytes();

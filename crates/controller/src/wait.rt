@@ -1,5 +1,5 @@
 // The wait job.
-ghost use Rattle.std.specs.Prelude.{◌≡◌, ◌%◌, []};
+ghost use Rattle.std.specs.Prelude.{◌≡◌, []};
 ghost use Rattle.refusals.specs.Told.{told};
 ghost use Rattle.jobfile.specs.Said.{shown_wait};
 ghost use Rattle.controller.specs.Master.{run};
@@ -23,7 +23,7 @@ pub fn wait<P: Part>(
 ) -> (Option<Busy>, Result<(), Refusal>)
     ensures run { run P.Part.ops (master_of lines.old 0 (shown_wait job.now)) board.old ≡ (board.new, told (λ _. []) result.1) }
     ensures lines { lines.new ≡ lines.old }
-    ensures note { result.0 ≡ after_wait (job.now.address % 128) (told (λ _. []) result.1) note }
+    ensures note { result.0 ≡ after_wait job.now.address (told (λ _. []) result.1) note }
 {
     match poll(board, lines, job.address(), job.polls()) {
         Ok(()) => (spend(note, job.address()), Ok(())),

@@ -1,5 +1,5 @@
 // The write job.
-ghost use Rattle.std.specs.Prelude.{◌≡◌, ◌%◌, []};
+ghost use Rattle.std.specs.Prelude.{◌≡◌, []};
 ghost use Rattle.refusals.specs.Told.{told};
 ghost use Rattle.jobfile.specs.Said.{shown_write};
 ghost use Rattle.controller.specs.Master.{run};
@@ -22,7 +22,7 @@ pub fn write<P: Part>(
 ) -> Result<Busy, Refusal>
     ensures run { run P.Part.ops (master_of lines.old 0 (shown_write job.now)) board.old ≡ (board.new, told (λ _. []) result) }
     ensures lines { lines.new ≡ lines.old }
-    ensures note { Noted (job.now.address % 128) result }
+    ensures note { Noted job.now.address result }
 {
     write_low(board, lines, job.address(), job.bytes())?;
     Ok(Busy::new(job.address()))

@@ -24,10 +24,11 @@ at_more i v xs h k l =
     let f : 3 - (i + 1) ≡ 2 - i = omega arith in
     rw (e, f, drop-cons xs i 0 k, le-ltb (get_or xs i 0) 128 l, add-one)
 
-pub at_none : (i v : ℕ) (xs : List ℕ) → 3 ≤ i → number_from (3 - i) v i (drop i xs) ≡ refused 7 0
+-- a third group that marks more
+pub at_third : (i v : ℕ) (xs : List ℕ) → i ≡ 2 → i < length xs → 128 ≤ get_or xs i 0 → number_from (3 - i) v i (drop i xs) ≡ refused 7 0
 unfolding number_from
-at_none i v xs h = let e : 3 - i ≡ 0 = omega arith in rw e
+at_third i v xs h k l =
+    let e : 3 - i ≡ 1 = omega arith in
+    rw (e, drop-cons xs i 0 k, le-ltb (get_or xs i 0) 128 l)
 
-pub past_end : (at : ℕ) (xs : List ℕ) → length xs ≤ at → number_from 3 0 0 (drop at xs) ≡ refused 5 0
-unfolding number_from
-past_end at xs h = rw (drop_all at xs h)
+pub ruleset groups = (at_end, at_last, at_more, at_third)

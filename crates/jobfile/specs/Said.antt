@@ -1,5 +1,5 @@
 -- What a job says, by values. One beyond a limit is refused with 7.
-use Rattle.std.specs.Prelude.{ℕ, ◌%◌, min, max, cond, List, length, take, nat_lt}
+use Rattle.std.specs.Prelude.{ℕ, cond, List, length, nat_lt}
 use Rattle.refusals.specs.Told.{Told, ok, refused}
 use Rattle.jobfile.specs.declared.finish.Finish.{Finish}
 use Rattle.jobfile.specs.declared.read.Read.{Read}
@@ -15,21 +15,21 @@ pub data Said : Type 0 where
   finish : (part : ℕ) → Said
   samples : (bytes : List ℕ) (at : ℕ) → Said
 
--- What a record says is within the limits, whatever it holds: an address has seven bits, bytes are at most so many, and numbers stay between.
+-- What a record says: its fields, which its ghost fields hold within the limits.
 abbrev pub shown_write : Write → Said
-shown_write job = write (job.address % 128) (take 255 job.bytes.now) job.at
+shown_write job = write job.address job.bytes.now job.at
 
 abbrev pub shown_read : Read → Said
-shown_read job = read (job.address % 128) (take 2 job.aim.now) job.at (max 1 job.count)
+shown_read job = read job.address job.aim.now job.at job.count
 
 abbrev pub shown_wait : Wait → Said
-shown_wait job = wait (job.address % 128) (max 1 (min 1000 job.polls))
+shown_wait job = wait job.address job.polls
 
 abbrev pub shown_finish : Finish → Said
 shown_finish job = finish job.part
 
 abbrev pub shown_samples : Samples → Said
-shown_samples job = samples (take 255 job.bytes.now) job.at
+shown_samples job = samples job.bytes.now job.at
 
 -- What a maker answers: the job as given, or the refusal of one beyond a limit.
 abbrev pub written : ℕ → List ℕ → ℕ → Told Said

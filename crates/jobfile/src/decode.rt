@@ -1,67 +1,77 @@
-// Each kind of job. Its fields begin at `at`, after the kind byte; fields are tested in the order of the file.
-ghost use Rattle.std.specs.Prelude.{◌≡◌, length};
+// Each kind of job. Its fields are tested in the order of the file.
+ghost use Rattle.std.specs.Prelude.{◌≡◌};
 ghost use Rattle.refusals.specs.Told.{told};
-ghost use Rattle.jobfile.specs.Jobs.{write_at, read_at, wait_at, finish_at, samples_at, said_next};
-ghost use Rattle.jobfile.specs.Offsets.{Onward};
+ghost use Rattle.jobfile.specs.Jobs.{write_at, read_at, wait_at, finish_at, samples_at, job_as, said};
+ghost use Rattle.jobfile.specs.Kinds.{kind_byte};
+ghost use Rattle.jobfile.specs.Reading.{ReadOn};
+ghost use Rattle.jobfile.specs.Said.{shown_write, shown_read, shown_wait, shown_finish, shown_samples};
 
-use crate::fields::{counted, field, number_at};
+use crate::fields::Fields;
 use crate::finish::Finish;
 use crate::job::Job;
+use crate::kind::Kind;
 use crate::read::Read;
 use crate::samples::Samples;
 use crate::wait::Wait;
 use crate::write::Write;
 use refusals::Refusal;
 
-pub(crate) fn write_job(file: &[u8], at: usize) -> Result<(Job<'_>, usize), Refusal>
-    ensures value { told said_next result ≡ write_at file.now at }
-    ensures onward { Onward at (length file.now) result }
+fn write_job<'a>(fields: &mut Fields<'a>) -> Result<Write<'a>, Refusal>
+    ensures value { told (λ job. (shown_write job, fields.new.at)) result ≡ write_at fields.old.file.now fields.old.at }
+    ensures onward { ReadOn fields.old fields.new }
 {
-    let (address, at) = field(file, at, 0, 127)?;
-    let (bytes, at) = counted(file, at, 255)?;
-    let job = Write::new(address as u8, bytes, at)?;
-    Ok((Job::Write(job), at + bytes.len()))
+    let address = fields.number_within(0, 127)?;
+    let (bytes, at) = fields.counted(255)?;
+    Write::new(address as u8, bytes, at)
 }
 
-pub(crate) fn read_job(file: &[u8], at: usize) -> Result<(Job<'_>, usize), Refusal>
-    ensures value { told said_next result ≡ read_at file.now at }
-    ensures onward { Onward at (length file.now) result }
+fn read_job<'a>(fields: &mut Fields<'a>) -> Result<Read<'a>, Refusal>
+    ensures value { told (λ job. (shown_read job, fields.new.at)) result ≡ read_at fields.old.file.now fields.old.at }
+    ensures onward { ReadOn fields.old fields.new }
 {
-    let (address, at) = field(file, at, 0, 127)?;
-    let (aim, at) = counted(file, at, 2)?;
-    let (count, next) = field(file, at + aim.len(), 1, 255)?;
-    let job = Read::new(address as u8, aim, at, count as u8)?;
-    Ok((Job::Read(job), next))
+    let address = fields.number_within(0, 127)?;
+    let (aim, at) = fields.counted(2)?;
+    let count = fields.number_within(1, 255)?;
+    Read::new(address as u8, aim, at, count as u8)
 }
 
-pub(crate) fn wait_job(file: &[u8], at: usize) -> Result<(Job<'_>, usize), Refusal>
-    ensures value { told said_next result ≡ wait_at file.now at }
-    ensures onward { Onward at (length file.now) result }
+fn wait_job(fields: &mut Fields<'_>) -> Result<Wait, Refusal>
+    ensures value { told (λ job. (shown_wait job, fields.new.at)) result ≡ wait_at fields.old.file.now fields.old.at }
+    ensures onward { ReadOn fields.old fields.new }
 {
-    let (address, at) = field(file, at, 0, 127)?;
-    let (polls, next) = field(file, at, 1, 1000)?;
-    let job = Wait::new(address as u8, polls as u16)?;
-    Ok((Job::Wait(job), next))
+    let address = fields.number_within(0, 127)?;
+    let polls = fields.number_within(1, 1000)?;
+    Wait::new(address as u8, polls as u16)
 }
 
-pub(crate) fn finish_job(file: &[u8], at: usize) -> Result<(Job<'_>, usize), Refusal>
-    ensures value { told said_next result ≡ finish_at file.now at }
-    ensures onward { Onward at (length file.now) result }
+fn finish_job(fields: &mut Fields<'_>) -> Result<Finish, Refusal>
+    ensures value { told (λ job. (shown_finish job, fields.new.at)) result ≡ finish_at fields.old.file.now fields.old.at }
+    ensures onward { ReadOn fields.old fields.new }
 {
-    let (part, next) = number_at(file, at)?;
-    Ok((
-        Job::Finish(Finish {
-            part: part as usize,
-        }),
-        next,
-    ))
+    let part = fields.number()?;
+    Ok(Finish {
+        part: part as usize,
+    })
 }
 
-pub(crate) fn samples_job(file: &[u8], at: usize) -> Result<(Job<'_>, usize), Refusal>
-    ensures value { told said_next result ≡ samples_at file.now at }
-    ensures onward { Onward at (length file.now) result }
+fn samples_job<'a>(fields: &mut Fields<'a>) -> Result<Samples<'a>, Refusal>
+    ensures value { told (λ job. (shown_samples job, fields.new.at)) result ≡ samples_at fields.old.file.now fields.old.at }
+    ensures onward { ReadOn fields.old fields.new }
 {
-    let (bytes, at) = counted(file, at, 255)?;
-    let job = Samples::new(bytes, at)?;
-    Ok((Job::Samples(job), at + bytes.len()))
+    let (bytes, at) = fields.counted(255)?;
+    Samples::new(bytes, at)
+}
+
+// The job of a kind whose fields come next.
+pub(crate) fn job_of<'a>(kind: Kind, fields: &mut Fields<'a>) -> Result<Job<'a>, Refusal>
+    ensures value { told (λ job. (said job, fields.new.at)) result ≡ job_as (kind_byte kind) fields.old.file.now fields.old.at }
+    ensures onward { ReadOn fields.old fields.new }
+{
+    match kind {
+        Kind::Write => Ok(Job::Write(write_job(fields)?)),
+        Kind::Read => Ok(Job::Read(read_job(fields)?)),
+        Kind::Wait => Ok(Job::Wait(wait_job(fields)?)),
+        Kind::Finish => Ok(Job::Finish(finish_job(fields)?)),
+        Kind::Samples => Ok(Job::Samples(samples_job(fields)?)),
+    }
 }

@@ -10,13 +10,17 @@ mod decode;
 mod fields;
 pub mod finish;
 pub mod job;
+pub mod jobs;
+mod kind;
 pub mod read;
 pub mod samples;
 pub mod wait;
 pub mod write;
 
-use decode::{finish_job, read_job, samples_job, wait_job, write_job};
+use decode::job_of;
+use fields::Fields;
 use job::Job;
+use kind::Kind;
 use refusals::Refusal;
 
 // The job that begins at `at`, and the offset of the next.
@@ -27,14 +31,10 @@ pub fn next_job(file: &[u8], at: usize) -> Result<(Job<'_>, usize), Refusal>
     if at >= file.len() {
         return Err(Refusal::FileEnds);
     }
-    match file[at] {
-        1 => write_job(file, at + 1),
-        2 => read_job(file, at + 1),
-        3 => wait_job(file, at + 1),
-        4 => finish_job(file, at + 1),
-        7 => samples_job(file, at + 1),
-        _ => Err(Refusal::UnknownKind),
-    }
+    let kind = Kind::try_from(file[at])?;
+    let mut fields = Fields { file, at: at + 1 };
+    let job = job_of(kind, &mut fields)?;
+    Ok((job, fields.at))
 }
 
 #[cfg(test)]

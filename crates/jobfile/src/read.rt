@@ -1,9 +1,7 @@
-// Bytes to be read from an address, after its aim bytes. The limits are kept as in a write.
-ghost use Rattle.std.specs.Prelude.{◌≡◌, ◌%◌, ◌≤◌, max, length, take};
+// Bytes to be read from an address, after its aim bytes.
+ghost use Rattle.std.specs.Prelude.{◌≡◌, ◌≤◌, length};
 ghost use Rattle.refusals.specs.Told.{told};
-ghost use Rattle.jobfile.specs.Said.{shown_read, readable};
 
-use crate::fields::front;
 use refusals::Refusal;
 
 #[derive(Clone, Copy)]
@@ -12,9 +10,14 @@ pub struct Read<'a> {
     aim: &'a [u8],
     at: usize,
     count: u8,
+    ghost address_limit: { address ≤ 127 },
+    ghost aim_limit: { length aim.now ≤ 2 },
+    ghost count_limit: { 1 ≤ count },
 }
 
 impl<'a> Read<'a> {
+    ghost use Rattle.jobfile.specs.Said.{shown_read, readable};
+
     pub fn new(address: u8, aim: &'a [u8], at: usize, count: u8) -> Result<Read<'a>, Refusal>
         ensures { told shown_read result ≡ readable address aim.now at count }
     {
@@ -30,17 +33,17 @@ impl<'a> Read<'a> {
     }
 
     pub fn address(&self) -> u8
-        ensures value { result ≡ self.now.address % 128 }
+        ensures value { result ≡ self.now.address }
         ensures limit { result ≤ 127 }
     {
-        self.address % 128
+        self.address
     }
 
     pub fn aim(&self) -> &'a [u8]
-        ensures value { result.now ≡ take 2 self.now.aim.now }
+        ensures value { result.now ≡ self.now.aim.now }
         ensures limit { length result.now ≤ 2 }
     {
-        front(self.aim, 2)
+        self.aim
     }
 
     // The offset of the first aim byte in the file.
@@ -51,9 +54,9 @@ impl<'a> Read<'a> {
     }
 
     pub fn count(&self) -> u8
-        ensures value { result ≡ max 1 self.now.count }
+        ensures value { result ≡ self.now.count }
         ensures limit { 1 ≤ result }
     {
-        if self.count < 1 { 1 } else { self.count }
+        self.count
     }
 }

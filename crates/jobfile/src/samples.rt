@@ -1,18 +1,19 @@
-// Samples for the wires. The limit is kept as in a write.
-ghost use Rattle.std.specs.Prelude.{◌≡◌, ◌≤◌, length, take};
+// Samples for the wires.
+ghost use Rattle.std.specs.Prelude.{◌≡◌, ◌≤◌, length};
 ghost use Rattle.refusals.specs.Told.{told};
-ghost use Rattle.jobfile.specs.Said.{shown_samples, sampled};
 
-use crate::fields::front;
 use refusals::Refusal;
 
 #[derive(Clone, Copy)]
 pub struct Samples<'a> {
     bytes: &'a [u8],
     at: usize,
+    ghost bytes_limit: { length bytes.now ≤ 255 },
 }
 
 impl<'a> Samples<'a> {
+    ghost use Rattle.jobfile.specs.Said.{shown_samples, sampled};
+
     pub fn new(bytes: &'a [u8], at: usize) -> Result<Samples<'a>, Refusal>
         ensures { told shown_samples result ≡ sampled bytes.now at }
     {
@@ -24,10 +25,10 @@ impl<'a> Samples<'a> {
 
     // As they stand in the file: a sample may have bits that no line has.
     pub fn bytes(&self) -> &'a [u8]
-        ensures value { result.now ≡ take 255 self.now.bytes.now }
+        ensures value { result.now ≡ self.now.bytes.now }
         ensures limit { length result.now ≤ 255 }
     {
-        front(self.bytes, 255)
+        self.bytes
     }
 
     // The offset of the first sample in the file.

@@ -1,7 +1,6 @@
-// Polls of an address until it gets an ACK. The limits are kept as in a write.
-ghost use Rattle.std.specs.Prelude.{◌≡◌, ◌%◌, ◌≤◌, min, max};
+// Polls of an address until it gets an ACK.
+ghost use Rattle.std.specs.Prelude.{◌≡◌, ◌≤◌};
 ghost use Rattle.refusals.specs.Told.{told};
-ghost use Rattle.jobfile.specs.Said.{shown_wait, waited};
 
 use refusals::Refusal;
 
@@ -9,9 +8,13 @@ use refusals::Refusal;
 pub struct Wait {
     address: u8,
     polls: u16,
+    ghost address_limit: { address ≤ 127 },
+    ghost polls_limit: { (1 ≤ polls) × (polls ≤ 1000) },
 }
 
 impl Wait {
+    ghost use Rattle.jobfile.specs.Said.{shown_wait, waited};
+
     pub fn new(address: u8, polls: u16) -> Result<Wait, Refusal>
         ensures { told shown_wait result ≡ waited address polls }
     {
@@ -22,22 +25,16 @@ impl Wait {
     }
 
     pub fn address(&self) -> u8
-        ensures value { result ≡ self.now.address % 128 }
+        ensures value { result ≡ self.now.address }
         ensures limit { result ≤ 127 }
     {
-        self.address % 128
+        self.address
     }
 
     pub fn polls(&self) -> u16
-        ensures value { result ≡ max 1 (min 1000 self.now.polls) }
+        ensures value { result ≡ self.now.polls }
         ensures limit { (1 ≤ result) × (result ≤ 1000) }
     {
-        if self.polls < 1 {
-            1
-        } else if self.polls > 1000 {
-            1000
-        } else {
-            self.polls
-        }
+        self.polls
     }
 }

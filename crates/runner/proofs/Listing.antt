@@ -1,16 +1,13 @@
 -- What one job adds to the rows of a file.
-use Rattle.std.proofs.Common.{◌≡◌, ℕ, ◌+◌, ◌-◌, ◌<◌, ◌≤◌, cond, List, [], ◌∷◌, length, set, sym, refl, ap, ◌∙◌, subst, arith}
+use Rattle.std.proofs.Common.{◌≡◌, ℕ, ◌+◌, ◌-◌, ◌<◌, ◌≤◌, cond, List, [], ◌∷◌, length, set, sym, ap, ◌∙◌, subst, arith}
 use Rattle.std.proofs.lemmas.Bool.{lt-ltb}
 use Rattle.refusals.specs.Told.{Told, ok, refused}
 use Rattle.rows.specs.declared.row.Row.{Row}
 use Rattle.rows.specs.Rows.{Grown, items_of, roomy}
 use Rattle.rows.proofs.Growing.{grown_none, grown_more}
-use Rattle.jobfile.specs.Said.{Said}
 use Rattle.controller.specs.Answers.{Answered, plain}
-use Rattle.runner.specs.FileJobs.{Next}
 use Rattle.runner.specs.Results.{done, seen_at, seen_between}
 use Rattle.runner.specs.Runs.{bytes_of}
-use Rattle.runner.proofs.Jobs.{no_job}
 
 -- the bytes answered stand between the counts before and after
 pub seen_same : (before after : Row ℕ) (t : Told (List ℕ)) (u : Told (Unit {0})) → Answered before t after → u ≡ plain t → seen_between before.count after.count u ≡ seen_at before.count t
@@ -30,10 +27,3 @@ count_grows before after (refused r p) h = let e : after.count ≡ before.count 
 -- an append where there is room
 pub one_more : {A : Type 0} (a c : Row A) (x : A) → a.count < length (items_of a) → c.count ≡ cond (roomy a) (a.count + 1) a.count → items_of c ≡ cond (roomy a) (set (items_of a) a.count x) (items_of a) → Grown a (x ∷ []) c
 one_more a c x h n i = grown_more a a c [] x (grown_none a) (lt-ltb _ _ h) n i
-
-pub next_after : (file : List ℕ) (at next : ℕ) (said : Said) → at < next → next ≤ length file → Next (ok (said, next)) at file next
-next_after file at next said p q = record { past = p; inside = q; jobs = λ n. refl }
-
-pub next_none : (file : List ℕ) (at r p : ℕ) → at < length file → Next (refused r p) at file (length file)
-next_none file at r p h =
-    record { past = h; inside = omega arith; jobs = λ n. ap (λ js. (refused r p, at) ∷ js) (sym (no_job file (length file) n (omega arith))) }

@@ -1,4 +1,4 @@
-pub mod FileJobs
 pub mod Lines
 pub mod Results
 pub mod Runs
+pub mod Sizes

@@ -7,7 +7,8 @@ use Rattle.board.specs.declared.board.Board.{Board}
 use Rattle.runner.specs.declared.result.JobResult.{JobResult}
 use Rattle.runner.specs.declared.result.Done.{Done}
 use Rattle.runner.specs.declared.result.Refused.{Refused}
-use Rattle.runner.specs.FileJobs.{FileJob, all_answers}
+use Rattle.jobfile.specs.FileJobs.{FileJob}
+use Rattle.runner.specs.Sizes.{all_answers}
 use Rattle.runner.specs.Runs.{all_bytes}
 
 -- what an outcome shows: where its bytes stand and how many there are, or the number of a refusal and its place

@@ -8,7 +8,7 @@ use Rattle.board.specs.Engine.{finished, finish_told}
 use Rattle.jobfile.specs.Said.{Said, write, read, wait, finish, samples}
 use Rattle.controller.specs.Master.{run}
 use Rattle.controller.specs.Said.{master_of}
-use Rattle.runner.specs.FileJobs.{FileJob}
+use Rattle.jobfile.specs.FileJobs.{FileJob}
 
 abbrev pub no_bytes : Told (Unit {0}) → Told (List ℕ)
 no_bytes (ok x) = ok []

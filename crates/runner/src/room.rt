@@ -1,10 +1,11 @@
 // How much room the results of a job file take.
 ghost use Rattle.std.specs.Prelude.{◌≡◌, ◌-◌, ◌^◌, min, length};
 ghost use Rattle.jobfile.specs.Jobs.{said};
-ghost use Rattle.runner.specs.FileJobs.{file_jobs, answers, all_answers};
+ghost use Rattle.jobfile.specs.FileJobs.{file_jobs};
+ghost use Rattle.runner.specs.Sizes.{answers, all_answers};
 
 use jobfile::job::Job;
-use jobfile::next_job;
+use jobfile::jobs::Jobs;
 
 #[derive(Clone, Copy)]
 pub struct Room {
@@ -32,18 +33,10 @@ pub fn room_for(file: &[u8]) -> Room
         results: 0,
         bytes: 0,
     };
-    let mut at = 0;
-    for _n in 0..file.len() {
-        if at >= file.len() {
-            return room;
-        }
+    for (_, job) in Jobs::new(file) {
         room.results += 1;
-        match next_job(file, at) {
-            Ok((job, next)) => {
-                room.bytes = room.bytes.saturating_add(answers(&job));
-                at = next;
-            }
-            Err(_) => return room,
+        if let Ok(job) = job {
+            room.bytes = room.bytes.saturating_add(answers(&job));
         }
     }
     room

@@ -2,12 +2,13 @@
 ghost use Rattle.std.specs.Prelude.{◌≡◌, ℕ, ◌+◌, ◌<◌, ◌≤◌, [], ◌∷◌, length};
 ghost use Rattle.refusals.specs.Told.{told};
 ghost use Rattle.jobfile.specs.Said.{shown_write};
-ghost use Rattle.jobfile.specs.Jobs.{said, job_at};
+ghost use Rattle.jobfile.specs.Jobs.{said};
+ghost use Rattle.jobfile.specs.FileJobs.{file_jobs};
 ghost use Rattle.rows.specs.Rows.{items_of, row_of, first_with, Grown};
 ghost use Rattle.controller.specs.Answers.{Into, room_of};
 ghost use Rattle.controller.specs.Master.{run};
 ghost use Rattle.controller.specs.Said.{master_of};
-ghost use Rattle.runner.specs.FileJobs.{answers, job_answers, decoded, Next, file_jobs, all_answers};
+ghost use Rattle.runner.specs.Sizes.{answers, job_answers, all_answers};
 ghost use Rattle.runner.specs.Results.{Listed, seen, seen_between, fits, Filed, FileRun};
 ghost use Rattle.runner.specs.Runs.{job_run, file_job_run, ran, bytes_of, Within};
 
@@ -20,7 +21,7 @@ use controller::samples::samples;
 use controller::wait::wait;
 use controller::write::write;
 use jobfile::job::Job;
-use jobfile::next_job;
+use jobfile::jobs::Jobs;
 use jobfile::write::Write;
 use part::Part;
 use part::levels::Levels;
@@ -84,41 +85,39 @@ fn outcome(answer: Result<(), Refusal>, from: usize, to: usize) -> Result<Done, 
     answer.map(|()| Done { from, count }).map_err(place)
 }
 
-// Runs the job at `at` and appends its result. Answers the offset of the next job, or the end of the file where there is none.
+// Runs a job of a file, which comes with its offset, and appends its result. A job that cannot be decoded is not run.
 fn run_next<P: Part>(
     board: &mut Board<P>,
     lines: &mut Levels,
-    file: &[u8],
     at: usize,
+    job: Result<Job<'_>, Refusal>,
     number: usize,
     note: Option<Busy>,
     results: &mut Row<'_, JobResult>,
     bytes: &mut Row<'_, u8>,
-) -> (usize, Option<Busy>)
-    requires inside { at < length file.now }
+) -> Option<Busy>
     requires result { results.old.count < length (items_of results.old) }
-    requires answer { job_answers (decoded (job_at file.now at)) ≤ room_of bytes.old }
-    ensures board { board.new ≡ (file_job_run P.Part.ops lines.old (decoded (job_at file.now at)) at board.old).0 }
-    ensures results { Listed number bytes.old.count (file_job_run P.Part.ops lines.old (decoded (job_at file.now at)) at board.old).1 results.old results.new }
-    ensures bytes { Grown bytes.old (bytes_of (file_job_run P.Part.ops lines.old (decoded (job_at file.now at)) at board.old).1) bytes.new }
-    ensures within { Within (job_answers (decoded (job_at file.now at))) (file_job_run P.Part.ops lines.old (decoded (job_at file.now at)) at board.old).1 }
-    ensures next { Next (job_at file.now at) at file.now result.0 }
+    requires answer { job_answers (told said job) ≤ room_of bytes.old }
+    ensures board { board.new ≡ (file_job_run P.Part.ops lines.old (told said job.entry) at board.old).0 }
+    ensures results { Listed number bytes.old.count (file_job_run P.Part.ops lines.old (told said job.entry) at board.old).1 results.old results.new }
+    ensures bytes { Grown bytes.old (bytes_of (file_job_run P.Part.ops lines.old (told said job.entry) at board.old).1) bytes.new }
+    ensures within { Within (job_answers (told said job.entry)) (file_job_run P.Part.ops lines.old (told said job.entry) at board.old).1 }
     ensures lines { lines.new ≡ lines.old }
     ensures results_lender { results.new.items.ghost_name ≡ results.old.items.ghost_name }
     ensures bytes_lender { bytes.new.items.ghost_name ≡ bytes.old.items.ghost_name }
 {
-    match next_job(file, at) {
-        Ok((job, next)) => {
+    match job {
+        Ok(job) => {
             let from = bytes.len();
             let (note, answer) = run_job(board, lines, &job, note, bytes);
             let outcome = outcome(answer, from, bytes.len());
             let _ = results.append(JobResult { number, outcome });
-            (next, note)
+            note
         }
         Err(refusal) => {
             let outcome = Err(Refused { refusal, place: at });
             let _ = results.append(JobResult { number, outcome });
-            (file.len(), note)
+            note
         }
     }
 }
@@ -139,14 +138,9 @@ fn run_jobs<P: Part>(
     ensures results_lender { results.new.items.ghost_name ≡ results.old.items.ghost_name }
     ensures bytes_lender { bytes.new.items.ghost_name ≡ bytes.old.items.ghost_name }
 {
-    let mut at = 0;
-    let mut number = 0;
     let mut note: Option<Busy> = None;
-    while at < file.len() {
-        number += 1;
-        let (next, held) = run_next(board, lines, file, at, number, note, results, bytes);
-        at = next;
-        note = held;
+    for (before, (at, job)) in Jobs::new(file).enumerate() {
+        note = run_next(board, lines, at, job, before + 1, note, results, bytes);
     }
     if let Some(busy) = note {
         busy.give_up();

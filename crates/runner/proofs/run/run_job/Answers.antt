@@ -1,8 +1,8 @@
-use Rattle.std.proofs.Common.{ℕ, ◌%◌, ◌≤◌, max, List, length, take, sym, refl, ap, ◌∙◌, subst}
+use Rattle.std.proofs.Common.{ℕ, ◌≤◌, List, length, sym, refl, ap, ◌∙◌, subst}
 use Rattle.jobfile.specs.Jobs.{said}
 use Rattle.controller.specs.Answers.{room_of}
 use Rattle.controller.specs.Jobs.{reading}
-use Rattle.runner.specs.FileJobs.{answers}
+use Rattle.runner.specs.Sizes.{answers}
 use Rattle.runner.specs.Runs.{job_run, Within}
 use Rattle.runner.proofs.Answering.{without_bytes, none_within, same_into, lasts_within, called, enough_room, enough_samples}
 use Rattle.runner.proofs.run.run_job.Goals as goal
@@ -16,9 +16,9 @@ returns-in-Write g c =
 pub returns-in-Read : goal.returns-in-Read
 unfolding job_run
 returns-in-Read g c =
-    let n : ℕ = max 1 c.in-Read.job.count in
+    let n : ℕ = c.in-Read.job.count in
     let room : n ≤ room_of c.args.bytes.now = subst (λ j. answers (said j) ≤ room_of c.args.bytes.now) c.in-Read.is c.requires in
-    let same = enough_room g.P.Part.ops n (room_of c.args.bytes.now) (reading c.args.lines.now (c.in-Read.job.address % 128) (take 2 c.in-Read.job.aim.now) n) c.args.board.now room in
+    let same = enough_room g.P.Part.ops n (room_of c.args.bytes.now) (reading c.args.lines.now c.in-Read.job.address c.in-Read.job.aim.now n) c.args.board.now room in
     let job = ap (λ j. job_run g.P.Part.ops c.args.lines.now (said j) c.args.board.now) (sym c.in-Read.is) in
     let most = lasts_within n _ c.read.ensures.count in
     record {
@@ -43,7 +43,7 @@ returns-in-Finish g c =
 pub returns-in-Samples : goal.returns-in-Samples
 unfolding job_run
 returns-in-Samples g c =
-    let xs : List ℕ = take 255 c.in-Samples.job.bytes.now in
+    let xs : List ℕ = c.in-Samples.job.bytes.now in
     let room : length xs ≤ room_of c.args.bytes.now = subst (λ j. answers (said j) ≤ room_of c.args.bytes.now) c.in-Samples.is c.requires in
     let same = enough_samples g.P.Part.ops xs (room_of c.args.bytes.now) c.args.board.now room in
     let job = ap (λ j. job_run g.P.Part.ops c.args.lines.now (said j) c.args.board.now) (sym c.in-Samples.is) in

@@ -1,46 +1,55 @@
-use Rattle.std.proofs.Common.{◌≡◌, ◌+◌, refl, ◌∙◌, subst}
+use Rattle.std.proofs.Common.{◌≡◌, ◌+◌, ◌<◌, ◌^◌, length, refl, ap, ◌∙◌, sym, subst, arith, inl}
+use Rattle.std.specs.Iterator.Adapters.{enumerate_source, enumerate_count}
+use Rattle.refusals.specs.Told.{told}
 use Rattle.rows.specs.Rows.{Grown}
-use Rattle.jobfile.specs.Jobs.{job_at}
-use Rattle.runner.specs.FileJobs.{decoded, job_answers}
+use Rattle.jobfile.specs.Jobs.{said}
+use Rattle.jobfile.specs.FileJobs.{file_jobs}
+use Rattle.jobfile.specs.Left.{left}
+use Rattle.jobfile.proofs.Turns.{few_jobs}
+use Rattle.runner.specs.Sizes.{job_answers}
 use Rattle.runner.specs.Results.{Listed}
 use Rattle.runner.specs.Runs.{file_job_run, bytes_of, Within}
-use Rattle.runner.proofs.Progress.{so_far_none, so_far_more, so_far_all, result_fits, answer_fits}
+use Rattle.runner.proofs.Progress.{SoFar, so_far_none, so_far_more, so_far_all, result_fits}
 use Rattle.runner.proofs.run.run_jobs.Goals as goal
 
-pub loop-at-init : goal.loop-at-init
-loop-at-init g c =
-    (so_far_none g.P.Part.ops c.args.lines.now c.args.file.now c.args.board.now c.args.results.now c.args.bytes.now c.requires.results c.requires.bytes, refl, refl, refl)
+pub loop-before-init : goal.loop-before-init
+loop-before-init g c =
+    let none : enumerate_count c.into_iter-before-iterator.result ≡ 0 = cc in
+    let all : left (enumerate_source c.into_iter-before-iterator.result) ≡ file_jobs c.args.file.now = cc in
+    let fits : enumerate_count c.into_iter-before-iterator.result + length (left (enumerate_source c.into_iter-before-iterator.result)) < 2 ^ 64 = omega (arith, ap length all, few_jobs c.args.file.now) in
+    ((tt, tt, inl fits), tt, so_far_none g.P.Part.ops c.args.lines.now _ c.args.board.now c.args.results.now c.args.bytes.now _ _ none all c.requires.results c.requires.bytes, refl, refl, refl)
 
-pub run_next-next-requires : goal.run_next-next-requires
-run_next-next-requires g c =
-    let s = c.loop-at.invariant.0 in
-    let k = c.loop-at-test.true in
-    record {
-      inside = k;
-      result = result_fits g.P.Part.ops c.args.lines.now c.args.file.now c.args.board.now c.args.results.now c.args.bytes.now c.loop-at.number c.loop-at.at c.loop-at.board c.loop-at.results c.loop-at.bytes s k;
-      answer = answer_fits g.P.Part.ops c.args.lines.now c.args.file.now c.args.board.now c.args.results.now c.args.bytes.now c.loop-at.number c.loop-at.at c.loop-at.board c.loop-at.results c.loop-at.bytes s k;
-    }
+pub run_next-note-requires-clause-result : goal.run_next-note-requires-clause-result
+run_next-note-requires-clause-result g c = result_fits g.P.Part.ops c.args.lines.now _ c.args.board.now c.args.results.now c.args.bytes.now _ _ _ _ _ c.loop-before.invariant.2 _ _ c.in-Some.ensures.steps.0
 
-pub loop-at-preserved : goal.loop-at-preserved
-loop-at-preserved g c =
-    let ran = c.run_next-next.ensures in
-    let same = c.loop-at.invariant.1 in
-    let board = subst (λ l. c.run_next-next.new.board ≡ (file_job_run g.P.Part.ops l (decoded (job_at c.args.file.now c.loop-at.at)) c.loop-at.at c.loop-at.board).0) same ran.board in
-    let results = subst (λ l. Listed (c.loop-at.number + 1) c.loop-at.bytes.count (file_job_run g.P.Part.ops l (decoded (job_at c.args.file.now c.loop-at.at)) c.loop-at.at c.loop-at.board).1 c.loop-at.results c.run_next-next.new.results) same ran.results in
-    let bytes = subst (λ l. Grown c.loop-at.bytes (bytes_of (file_job_run g.P.Part.ops l (decoded (job_at c.args.file.now c.loop-at.at)) c.loop-at.at c.loop-at.board).1) c.run_next-next.new.bytes) same ran.bytes in
-    let within = subst (λ l. Within (job_answers (decoded (job_at c.args.file.now c.loop-at.at))) (file_job_run g.P.Part.ops l (decoded (job_at c.args.file.now c.loop-at.at)) c.loop-at.at c.loop-at.board).1) same ran.within in (
-      so_far_more g.P.Part.ops c.args.lines.now c.args.file.now c.args.board.now c.args.results.now c.args.bytes.now c.loop-at.number c.loop-at.at c.loop-at.board c.loop-at.results c.loop-at.bytes c.loop-at.invariant.0 c.run_next-next.result.0 c.run_next-next.new.board c.run_next-next.new.results c.run_next-next.new.bytes c.loop-at-test.true ran.next board results bytes within,
+pub loop-before-preserved : goal.loop-before-preserved
+loop-before-preserved g c =
+    let job = told said c.in-Some.job in
+    let ran = c.run_next-note.ensures in
+    let same = c.loop-before.invariant.3 in
+    let number : c.in-Some.before + 1 ≡ enumerate_count c.loop-before.before-iterator + 1 = omega (arith, c.in-Some.ensures.steps.1) in
+    let board = subst (λ l. c.run_next-note.new.board ≡ (file_job_run g.P.Part.ops l job c.in-Some.at c.loop-before.board).0) same ran.board in
+    let results = subst (λ l. Listed (c.in-Some.before + 1) c.loop-before.bytes.count (file_job_run g.P.Part.ops l job c.in-Some.at c.loop-before.board).1 c.loop-before.results c.run_next-note.new.results) same ran.results in
+    let listed = subst (λ n. Listed n c.loop-before.bytes.count (file_job_run g.P.Part.ops c.args.lines.now job c.in-Some.at c.loop-before.board).1 c.loop-before.results c.run_next-note.new.results) number results in
+    let bytes = subst (λ l. Grown c.loop-before.bytes (bytes_of (file_job_run g.P.Part.ops l job c.in-Some.at c.loop-before.board).1) c.run_next-note.new.bytes) same ran.bytes in
+    let within = subst (λ l. Within (job_answers job) (file_job_run g.P.Part.ops l job c.in-Some.at c.loop-before.board).1) same ran.within in
+    let more = so_far_more g.P.Part.ops c.args.lines.now _ c.args.board.now c.args.results.now c.args.bytes.now _ _ _ _ _ c.loop-before.invariant.2 _ _ c.in-Some.ensures.steps.0 _ _ _ board listed bytes within in (
+      c.in-Some.ensures.goes.keeps,
+      tt,
+      subst (λ n. SoFar g.P.Part.ops c.args.lines.now (file_jobs c.args.file.now) c.args.board.now c.args.results.now c.args.bytes.now n (left (enumerate_source c.next.new.self)) c.run_next-note.new.board c.run_next-note.new.results c.run_next-note.new.bytes) (sym c.in-Some.ensures.steps.2) more,
       ran.lines ∙ same,
-      ran.results_lender ∙ c.loop-at.invariant.2,
-      ran.bytes_lender ∙ c.loop-at.invariant.3,
+      ran.results_lender ∙ c.loop-before.invariant.4,
+      ran.bytes_lender ∙ c.loop-before.invariant.5,
     )
 
-pub returns-in-Some : goal.returns-in-Some
-returns-in-Some g c =
-    let all = so_far_all g.P.Part.ops c.args.lines.now c.args.file.now c.args.board.now c.args.results.now c.args.bytes.now c.loop-at.number c.loop-at.at c.loop-at.board c.loop-at.results c.loop-at.bytes c.loop-at.invariant.0 c.loop-at-test.false in
-    record { board = all.0; filed = all.1; lines = c.loop-at.invariant.1; results_lender = c.loop-at.invariant.2; bytes_lender = c.loop-at.invariant.3 }
+pub returns-in-Some-note-clause-board : goal.returns-in-Some-note-clause-board
+returns-in-Some-note-clause-board g c = (so_far_all g.P.Part.ops c.args.lines.now _ c.args.board.now c.args.results.now c.args.bytes.now _ _ _ _ _ c.loop-before.invariant.2 c.in-None.ensures.steps.0.0).0
 
-pub returns-in_default : goal.returns-in_default
-returns-in_default g c =
-    let all = so_far_all g.P.Part.ops c.args.lines.now c.args.file.now c.args.board.now c.args.results.now c.args.bytes.now c.loop-at.number c.loop-at.at c.loop-at.board c.loop-at.results c.loop-at.bytes c.loop-at.invariant.0 c.loop-at-test.false in
-    record { board = all.0; filed = all.1; lines = c.loop-at.invariant.1; results_lender = c.loop-at.invariant.2; bytes_lender = c.loop-at.invariant.3 }
+pub returns-in-Some-note-clause-filed : goal.returns-in-Some-note-clause-filed
+returns-in-Some-note-clause-filed g c = (so_far_all g.P.Part.ops c.args.lines.now _ c.args.board.now c.args.results.now c.args.bytes.now _ _ _ _ _ c.loop-before.invariant.2 c.in-None.ensures.steps.0.0).1
+
+pub returns-in_default-clause-board : goal.returns-in_default-clause-board
+returns-in_default-clause-board g c = (so_far_all g.P.Part.ops c.args.lines.now _ c.args.board.now c.args.results.now c.args.bytes.now _ _ _ _ _ c.loop-before.invariant.2 c.in-None.ensures.steps.0.0).0
+
+pub returns-in_default-clause-filed : goal.returns-in_default-clause-filed
+returns-in_default-clause-filed g c = (so_far_all g.P.Part.ops c.args.lines.now _ c.args.board.now c.args.results.now c.args.bytes.now _ _ _ _ _ c.loop-before.invariant.2 c.in-None.ensures.steps.0.0).1
