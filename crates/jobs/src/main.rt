@@ -7,7 +7,7 @@ use ds1846::state::Ds1846;
 use part::levels::Levels;
 use refusals::Refusal;
 use rows::row::Row;
-use runner::line::line;
+use runner::line::ResultLine;
 use runner::result::{Done, JobResult, Refused};
 use runner::room::room_for;
 use runner::run::run_file;
@@ -53,8 +53,9 @@ fn run(rt: &HostRuntime, file: &[u8]) -> anyhow::Result<()> {
             return Err(anyhow!("the results found no room"));
         }
     }
-    for result in results.iter() {
-        rt.println(line(rt.alloc(), result, &bytes)?)?;
+    for &result in &results {
+        let bytes = &bytes;
+        rt.println(ResultLine { result, bytes })?;
     }
     Ok(())
 }
@@ -62,7 +63,8 @@ fn run(rt: &HostRuntime, file: &[u8]) -> anyhow::Result<()> {
 fn main(rt: HostRuntime) -> anyhow::Result<()> {
     let file = read_file(&rt)?;
     if file.len() > MOST {
-        rt.println(line(rt.alloc(), &TOO_LONG, &[])?)?;
+        let result = TOO_LONG;
+        rt.println(ResultLine { result, bytes: &[] })?;
         return Ok(());
     }
     run(&rt, &file)

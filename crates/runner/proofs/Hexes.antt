@@ -1,24 +1,20 @@
--- The hex text of bytes, as the library writes it. Assumes nothing.
-use Rattle.std.proofs.Common.{◌≡◌, ℕ, suc, ◌/◌, ◌%◌, ◌<◌, List, [], ◌∷◌, slice_index, map, refl, ap, ◌∙◌, arith}
-use mir.Val.{Fits}
-use mir.Syntax.{w8}
-use Rattle.std.specs.List.{range_with_len}
-use Rattle.std.proofs.lemmas.List.FromFn.{get_or-map-range_with_len}
-use Rattle.hex.specs.Hex.{encode_lower, encode_with, lower_digits}
+-- The hexadecimal text of bytes, one byte after another.
+use Rattle.std.proofs.Common.{◌≡◌, ℕ, zero, suc, ◌+◌, ◌-◌, ◌/◌, ◌%◌, ◌^◌, ◌<◌, false, List, [], ◌∷◌, ◌++◌, length, get_or, take, refl, ap, ◌∙◌, le_of_suc-le-suc, not-suc-le-zero, add-one}
+use Rattle.std.specs.Fmt.{digits, padded_integral, format_spec}
+use Rattle.std.proofs.lemmas.Fmt.{hex_byte}
 use Rattle.runner.specs.Lines.{hex_digit, hexes}
 
-digits : lower_digits ≡ map hex_digit (range_with_len 0 16)
-digits = refl
+-- a byte as the format 02x writes it
+abbrev pub byte_text : ℕ → List ℕ
+byte_text x = padded_integral (format_spec 32 0 4 2 (2 ^ 64 - 1)) false [] (digits 16 false x)
 
-digit : (n : ℕ) → n < 16 → slice_index lower_digits n ≡ hex_digit n
-digit n h = ap (λ xs. slice_index xs n) digits ∙ get_or-map-range_with_len hex_digit 0 16 n n 0 h (omega arith)
+abbrev pair : ℕ → List ℕ
+pair x = hex_digit (x / 16) ∷ hex_digit (x % 16) ∷ []
 
-pub same_hexes : (xs : List ℕ) → ((i : ℕ) → Fits w8 (slice_index xs i)) → encode_lower xs ≡ hexes xs
-unfolding encode_with
-same_hexes [] h = refl
-same_hexes (x ∷ xs) h =
-    let fits = h 0 in
-    let high = digit (x / 16) (omega (arith, fits)) in
-    let low = digit (x % 16) (omega arith) in
-    let rest = same_hexes xs (λ i. h (suc i)) in
-    cc
+more : (xs : List ℕ) (i : ℕ) → i < length xs → hexes (take i xs) ++ pair (get_or xs i 0) ≡ hexes (take (suc i) xs)
+more [] i h = absurd (not-suc-le-zero h)
+more (x ∷ xs) zero h = refl
+more (x ∷ xs) (suc i) h = ap (λ (r : List ℕ). hex_digit (x / 16) ∷ hex_digit (x % 16) ∷ r) (more xs i (le_of_suc-le-suc h))
+
+pub hexes_more : (xs : List ℕ) (i : ℕ) → i < length xs → get_or xs i 0 < 256 → hexes (take i xs) ++ byte_text (get_or xs i 0) ≡ hexes (take (i + 1) xs)
+hexes_more xs i h k = ap (λ t. hexes (take i xs) ++ t) (hex_byte false (get_or xs i 0) k) ∙ rw add-one (more xs i h)

@@ -1,10 +1,62 @@
 // The text of a result's line.
-ghost use Rattle.std.specs.Prelude.{◌≡◌, ◌<◌, [], ◌∷◌, ◌++◌, take, drop, IfOk, string_bytes, codes, decimal, OnOk};
-ghost use Rattle.runner.specs.Lines.{hex_digit, hexes, bytes_text, line_text};
+ghost use Rattle.std.specs.Prelude.{◌≡◌, Some, take, drop, IfOk, string_bytes};
+ghost use Rattle.runner.specs.Lines.{bytes_text, refused_text, line_text};
 ghost use Rattle.runner.specs.Results.{shown};
 
 use super::result::{Done, JobResult, Refused};
 use std::alloc::{AllocError, Global};
+use std::fmt;
+
+// A result with the byte list in which its bytes stand.
+#[derive(Clone, Copy)]
+pub struct ResultLine<'a> {
+    pub result: JobResult,
+    pub bytes: &'a [u8],
+}
+
+impl fmt::Display for ResultLine<'_> {
+    ghost output = { λ line. Some (line_text (shown line.result) line.bytes.now) };
+
+    fn fmt<W: fmt::Write>(&self, f: &mut fmt::Formatter<W>) -> fmt::Result {
+        let number = self.result.number;
+        match self.result.outcome {
+            Ok(Done { from, count }) => {
+                let bytes = Bytes(part(self.bytes, from, count));
+                write!(f, "{number} ok {bytes}")
+            }
+            Err(refused) => write!(f, "{number} no {refused}"),
+        }
+    }
+}
+
+// The number of the refusal, and the place.
+impl fmt::Display for Refused {
+    ghost output = { λ refused. Some (refused_text refused) };
+
+    fn fmt<W: fmt::Write>(&self, f: &mut fmt::Formatter<W>) -> fmt::Result {
+        let Refused { refusal, place } = *self;
+        let number = refusal.number();
+        write!(f, "{number} {place}")
+    }
+}
+
+// Answered bytes: two hexadecimal digits for each, or `-` where there are none.
+#[derive(Clone, Copy)]
+struct Bytes<'a>(&'a [u8]);
+
+impl fmt::Display for Bytes<'_> {
+    ghost output = { λ bytes. Some (bytes_text bytes.0.now) };
+
+    fn fmt<W: fmt::Write>(&self, f: &mut fmt::Formatter<W>) -> fmt::Result {
+        if self.0.is_empty() {
+            return write!(f, "-");
+        }
+        for &byte in self.0 {
+            write!(f, "{byte:02x}")?;
+        }
+        Ok(())
+    }
+}
 
 // Bytes of the list from a place on, as many as there are.
 fn part(bytes: &[u8], from: usize, count: usize) -> &[u8]
@@ -14,33 +66,10 @@ fn part(bytes: &[u8], from: usize, count: usize) -> &[u8]
     &rest[..count.min(rest.len())]
 }
 
-// Two digits for each byte.
-fn hex_text(heap: Global, bytes: &[u8]) -> Result<String, AllocError>
-    ensures { IfOk result (λ s. string_bytes s ≡ hexes bytes.now) }
-{
-    hex::encode(heap, bytes)
-}
-
-fn done_line(heap: Global, number: usize, bytes: &[u8]) -> Result<String, AllocError>
-    ensures { IfOk result (λ s. string_bytes s ≡ decimal number ++ (codes " ok " ++ bytes_text bytes.now)) }
-{
-    if bytes.is_empty() {
-        return format!(in heap; "{number} ok -");
-    }
-    let text = hex_text(heap, bytes)?;
-    format!(in heap; "{number} ok {text}")
-}
-
 // The line of a result whose bytes stand in the byte list.
 pub fn line(heap: Global, job: &JobResult, bytes: &[u8]) -> Result<String, AllocError>
     ensures { IfOk result (λ s. string_bytes s ≡ line_text (shown job.now) bytes.now) }
 {
-    let number = job.number;
-    match job.outcome {
-        Ok(Done { from, count }) => done_line(heap, number, part(bytes, from, count)),
-        Err(Refused { refusal, place }) => {
-            let refusal = refusal.number();
-            format!(in heap; "{number} no {refusal} {place}")
-        }
-    }
+    let result = *job;
+    ResultLine { result, bytes }.to_string(heap)
 }
