@@ -1,7 +1,6 @@
 // Runs a job file from standard input on a board with one fresh DS1846, and prints a line for each job.
 #![tactic(auto)]
 
-use anyhow::anyhow;
 use board::board::Board;
 use ds1846::state::Ds1846;
 use part::levels::Levels;
@@ -49,9 +48,7 @@ fn run(rt: &HostRuntime, file: &[u8]) -> anyhow::Result<()> {
     {
         let mut result_row = Row::new(&mut results);
         let mut byte_row = Row::new(&mut bytes);
-        if run_file(&mut board, &mut lines, file, &mut result_row, &mut byte_row).is_err() {
-            return Err(anyhow!("the results found no room"));
-        }
+        run_file(&mut board, &mut lines, file, &mut result_row, &mut byte_row)?;
     }
     for &result in &results {
         let bytes = &bytes;
