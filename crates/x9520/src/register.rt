@@ -14,10 +14,9 @@ fn weigh(weight: u8, flag: bool) -> u8
 }
 
 // The latches after a latch byte.
-pub(super) fn latched(latches: Latches, byte: u8) -> Latches
+pub(super) fn latched(mut latches: Latches, byte: u8) -> Latches
     ensures { result ≡ latched latches byte }
 {
-    let mut latches = latches;
     match byte {
         0 => latches = Latches::new(),
         2 => latches.enable(),
