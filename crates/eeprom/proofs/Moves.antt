@@ -8,18 +8,11 @@ use Rattle.eeprom.specs.Cells.{blank, staging, unstaged, begun, finished, cut_of
 use Rattle.eeprom.proofs.Busy.{busy_at, busy_by}
 use Rattle.eeprom.proofs.Places.{place_in, place_out, place_none}
 
-module _ (N : ℕ) where
-  fresh_cell : (i : ℕ) → cell_at {N = N} all_fresh i ≡ blank
-  fresh_cell i = place_none blank N N i
+pub fresh_cell : (N i : ℕ) → cell_at {N = N} all_fresh i ≡ blank
+fresh_cell N i = place_none blank N N i
 
-  pub fresh_byte : (i : ℕ) → byte_at {N = N} all_fresh i ≡ 0
-  fresh_byte i = ap (λ c. c.byte) (fresh_cell i)
-
-  pub fresh_staged : (i : ℕ) → staged_at {N = N} all_fresh i ≡ None
-  fresh_staged i = ap (λ c. c.staged) (fresh_cell i)
-
-  pub fresh_under : (i : ℕ) → under_at {N = N} all_fresh i ≡ None
-  fresh_under i = ap (λ c. c.under) (fresh_cell i)
+pub fresh_under : (N i : ℕ) → under_at {N = N} all_fresh i ≡ None
+fresh_under N i = ap (λ c. c.under) (fresh_cell N i)
 
 -- a byte staged for cell n, at a cell i past the last or at one that there is
 staged_out : (t f : Bool) (n m i b : ℕ) → ltb n m ≡ t → eqb i n ≡ f → ltb i m ≡ false → None ≡ cond t (cond f (Some b) None) None

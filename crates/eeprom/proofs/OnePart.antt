@@ -1,7 +1,6 @@
 -- A chip that is the one numbered part keeps the laws of a part, given what its own moves do. Assumes nothing.
-use Rattle.std.proofs.Common.{◌≡◌, ℕ, ◌%◌, ◌/◌, ◌^◌, Bool, true, false, cond, not, ◌&&◌, eqb, ◌⊎◌, Some, None, Option, sym, refl, ap, subst, ◌∙◌, inl, inr, arith}
-use borrow.Author.Tests.{clash}
-use Rattle.std.proofs.lemmas.Bool.{eqb-true, eq-eqb, ne_eqb, and_parts, cond-true, cond-false}
+use Rattle.std.proofs.Common.{◌≡◌, ℕ, ◌%◌, ◌/◌, ◌^◌, Bool, true, false, not, ◌&&◌, eqb, None, sym, refl, ap, subst, ◌∙◌, inl, inr, arith}
+use Rattle.std.proofs.lemmas.Bool.{eq-eqb, ne_eqb, and_parts, cond-true, cond-false}
 use Rattle.part.specs.declared.levels.Levels.{Levels}
 use Rattle.part.specs.declared.power.PowerCut.{PowerCut}
 use Rattle.part.specs.Ops.{is}

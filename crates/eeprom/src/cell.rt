@@ -1,9 +1,9 @@
 // One cell.
 ghost use Rattle.std.specs.Prelude.{◌≡◌, is_some};
-ghost use Rattle.eeprom.specs.Cells.{blank, unstaged, begun, finished, cut_off};
+ghost use Rattle.eeprom.specs.Cells.{unstaged, begun, finished, cut_off};
 
 // A lasting byte, the value staged for it, and the value that a write under way brings it.
-#[derive(Clone, Copy, PartialEq, Eq, Debug)]
+#[derive(Clone, Copy, PartialEq, Eq, Debug, Default)]
 pub struct Cell {
     pub(super) byte: u8,
     pub(super) staged: Option<u8>,
@@ -11,16 +11,6 @@ pub struct Cell {
 }
 
 impl Cell {
-    pub(super) fn blank() -> Cell
-        ensures { result ≡ blank }
-    {
-        Cell {
-            byte: 0,
-            staged: None,
-            under: None,
-        }
-    }
-
     pub(super) fn is_busy(&self) -> bool
         ensures { result ≡ is_some self.now.under }
     {
@@ -41,9 +31,9 @@ impl Cell {
         ensures { result ≡ begun self }
     {
         Cell {
-            byte: self.byte,
             staged: None,
             under: self.under.or(self.staged),
+            ..self
         }
     }
 
@@ -53,8 +43,8 @@ impl Cell {
     {
         Cell {
             byte: self.under.unwrap_or(self.byte),
-            staged: self.staged,
             under: None,
+            ..self
         }
     }
 
@@ -65,7 +55,7 @@ impl Cell {
         let cell = if stores { self.finished() } else { self };
         Cell {
             byte: cell.byte,
-            ..Cell::blank()
+            ..Cell::default()
         }
     }
 }

@@ -22,7 +22,7 @@ impl<const N: usize> Eeprom<N> {
         ensures { result ≡ all_fresh }
     {
         Eeprom {
-            cells: [Cell::blank(); N],
+            cells: [Cell::default(); N],
         }
     }
 
@@ -30,7 +30,7 @@ impl<const N: usize> Eeprom<N> {
     fn cell(&self, n: usize) -> Cell
         ensures { result ≡ cell_at self.now n }
     {
-        self.cells.get(n).copied().unwrap_or(Cell::blank())
+        self.cells.get(n).copied().unwrap_or_default()
     }
 
     pub fn byte(&self, n: usize) -> Option<u8>
@@ -55,7 +55,7 @@ impl<const N: usize> Eeprom<N> {
     pub fn busy(&self) -> bool
         ensures { result ≡ is_busy self.now }
     {
-        self.cells.iter().any(|cell| cell.is_busy())
+        self.cells.iter().any(Cell::is_busy)
     }
 
     // Stages a byte for a cell, in the place of an earlier one; where there is no such cell, nothing.

@@ -2,8 +2,8 @@
 ghost use Rattle.std.specs.Prelude.{◌≡◌, ◌%◌};
 ghost use Rattle.eeprom.specs.Pages.{next_in_page};
 
-// The cell after n in its page of so many cells, or the first of the page after the last.
-// Cells of no page have no last. Where a page would run past cell 255, it goes on at cell 0.
+// The cell after n in its page of so many cells; after the last of the page comes its first.
+// With pages of 0 cells the number goes up, 255 to 0, and a page that would run past cell 255 goes on at cell 0.
 pub fn next_in_page<const PAGE: u8>(n: u8) -> u8
     ensures around { result ≡ next_in_page PAGE n % 256 }
     ensures whole { 256 % PAGE ≡ 0 → result ≡ next_in_page PAGE n }

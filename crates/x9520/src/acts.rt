@@ -83,22 +83,17 @@ impl X9520 {
                 self.mode = Mode::MemoryBytes;
                 true
             }
-            Device::Register => {
-                if byte != 0xff {
-                    return false;
-                }
+            Device::Register if byte == 0xff => {
                 self.mode = Mode::RegisterByte;
                 true
             }
-            Device::Dcps => {
-                if byte % 128 >= 3 {
-                    return false;
-                }
+            Device::Dcps if byte % 128 < 3 => {
                 self.named = byte % 128;
                 let store = byte >= 128;
                 self.mode = Mode::DcpByte { store };
                 true
             }
+            _ => false,
         }
     }
 
@@ -106,23 +101,16 @@ impl X9520 {
     fn latches_stopped(&self, clean: bool, wp: bool) -> Latches
         ensures { result ≡ latches_stopped self.now.mode clean wp (stored_register self.now) self.now.latches }
     {
+        let mut latches = self.latches;
         match self.mode {
-            Mode::Latching { byte } => {
-                let register = self.stored_register();
-                if clean && !wp_forbids(false, wp, register) {
-                    latched(self.latches, byte)
-                } else {
-                    self.latches
-                }
+            Mode::Latching { byte } if clean && !wp_forbids(false, wp, self.stored_register()) => {
+                latched(latches, byte)
             }
-            Mode::Storing { .. } => {
-                let mut latches = self.latches;
-                if clean && !wp {
-                    latches.disarm();
-                }
+            Mode::Storing { .. } if clean && !wp => {
+                latches.disarm();
                 latches
             }
-            _ => self.latches,
+            _ => latches,
         }
     }
 
@@ -131,16 +119,10 @@ impl X9520 {
         ensures { result ≡ flags_stopped self.now.mode begins levels self.now.flags }
     {
         match self.mode {
-            Mode::Storing { byte } => {
-                if begins {
-                    Flags {
-                        v2os: byte / 64 % 2 == 1 && levels.v2ro,
-                        v3os: byte / 32 % 2 == 1 && levels.v3ro,
-                    }
-                } else {
-                    self.flags
-                }
-            }
+            Mode::Storing { byte } if begins => Flags {
+                v2os: byte / 64 % 2 == 1 && levels.v2ro,
+                v3os: byte / 32 % 2 == 1 && levels.v3ro,
+            },
             _ => self.flags,
         }
     }
