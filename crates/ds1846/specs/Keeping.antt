@@ -10,7 +10,7 @@ use Rattle.eeprom.specs.Cells.{byte_at, staged_at, is_busy}
 use Rattle.eeprom.specs.OnePart.{of_part}
 use Rattle.eeprom.proofs.Moves.{unstages_byte, unstages_staged}
 use Rattle.eeprom.proofs.Numbered.{staged_by}
-use Rattle.eeprom.proofs.OnePart.{Rests, rests, unstages_rests, stages_rests, fixed, lasting, unstaged, still, dropped, drops, Moves, keeps_part}
+use Rattle.eeprom.proofs.OnePart.{Rests, rests, unstages_rests, stages_rests, fixed, lasting, unstaged, still, dropped, drops, OwnMoves, keeps_part}
 use Rattle.ds1846.specs.declared.state.Ds1846.{Ds1846}
 use Rattle.ds1846.specs.declared.state.Mode.{Mode}
 use Rattle.ds1846.specs.declared.state.Mode.TheVariants.{Idle, Aiming, Writing, Reading}
@@ -109,7 +109,7 @@ settles = record {
   after_finish = λ s l q h. refl;
 }
 
-pub moves : Moves as_part
+pub moves : OwnMoves as_part
 moves = record {
   put = λ s e. refl;
   put_heard = λ s e. refl;

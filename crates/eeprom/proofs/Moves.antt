@@ -9,7 +9,7 @@ use Rattle.eeprom.proofs.Busy.{busy_at, busy_by}
 use Rattle.eeprom.proofs.Places.{place_in, place_out, place_none}
 
 pub fresh_cell : (N i : ℕ) → cell_at {N = N} all_fresh i ≡ blank
-fresh_cell N i = place_none blank N N i
+fresh_cell N i = place_none blank N i
 
 pub fresh_under : (N i : ℕ) → under_at {N = N} all_fresh i ≡ None
 fresh_under N i = ap (λ c. c.under) (fresh_cell N i)

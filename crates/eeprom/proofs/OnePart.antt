@@ -112,7 +112,7 @@ module _ {S : Type 0} {N : ℕ} (c : OnePart S N) where
         unheard = h;
       }
 
-  -- what the moves of the chip are to do
+  -- what each of the chip's own moves is to do
   pub record Passed (s t : S) : Type 0 where
     pub eeprom : c.eeprom t ≡ c.eeprom s
     pub tap : (j : ℕ) → c.tap t j ≡ c.tap s j
@@ -122,7 +122,7 @@ module _ {S : Type 0} {N : ℕ} (c : OnePart S N) where
     pub eeprom : c.eeprom t ≡ e
     pub heard : c.heard t ≡ None
 
-  pub record Moves : Type 0 where
+  pub record OwnMoves : Type 0 where
     pub put : (s : S) (e : Eeprom N) → c.eeprom (c.with_eeprom s e) ≡ e
     pub put_heard : (s : S) (e : Eeprom N) → c.heard (c.with_eeprom s e) ≡ c.heard s
     pub put_back : (s : S) → c.with_eeprom s (c.eeprom s) ≡ s
@@ -136,7 +136,7 @@ module _ {S : Type 0} {N : ℕ} (c : OnePart S N) where
     pub cut : (s : S) (p : PowerCut) → Left (cuts (c.eeprom s) p.mask) (c.cut s p)
     pub settles : Settles (part_of c)
 
-module _ {S : Type 0} {N : ℕ} (c : OnePart S N) (m : Moves c) where
+module _ {S : Type 0} {N : ℕ} (c : OnePart S N) (m : OwnMoves c) where
   finishing : (s : S) (q : ℕ) → Finishes (part_of c) s q ((part_of c).finish s q)
   finishing s q =
       let e = c.eeprom s in

@@ -1,10 +1,10 @@
 -- What stands at a place of a table, and lists as tables. Assumes nothing.
-use Rattle.std.proofs.Common.{◌≡◌, ℕ, zero, suc, ◌<◌, Bool, true, false, cond, eqb, ltb, List, length, get_or, set, replicate, refl, ap, ◌∙◌, subst, ◌+◌, ◌≤◌, ⊎_elim, arith}
+use Rattle.std.proofs.Common.{◌≡◌, ℕ, zero, suc, ◌<◌, Bool, true, false, cond, eqb, ltb, List, length, get_or, set, refl, ap, ◌∙◌, subst, ◌+◌, ◌≤◌, ⊎_elim, arith}
 use Rattle.std.specs.Array.{IsFromFnResult, IsFromFnResultFrom}
 use Rattle.std.specs.Fn.{Called}
 use denote.Param.Members.{Mut}
 use Rattle.std.proofs.lemmas.List.FromFn.{get_or-map-range_with_len, length-map-range_with_len, fill_by_all}
-use Rattle.std.proofs.lemmas.List.{length-set, get_or-set_same, get_or-set_other}
+use Rattle.std.proofs.lemmas.List.{length-set, get_or-set_same, get_or-set_other, get_or-replicate}
 use Rattle.std.proofs.lemmas.Bool.{ltb-true, lt-ltb, eq-eqb, ne_eqb, cases_eq}
 use Rattle.eeprom.specs.declared.Eeprom.{Eeprom}
 use Rattle.eeprom.specs.Cells.{place, table, all_of, blank, staging, stages}
@@ -64,19 +64,14 @@ module _ {A : Type 0} where
   pub place_out : (d : A) (xs : List A) (n i : ℕ) → ltb i n ≡ false → place n d xs i ≡ d
   place_out d xs n i h = rw h
 
-  getD_none : (d : A) (m i : ℕ) → get_or (replicate m d) i d ≡ d
-  getD_none d zero i = refl
-  getD_none d (suc m) zero = refl
-  getD_none d (suc m) (suc i) = getD_none d m i
-
-  both : (b : Bool) (x d : A) → x ≡ d → cond b x d ≡ d
-  both true x d e = e
-  both false x d e = refl
+  none_at : (t : Bool) (d : A) (n i : ℕ) → ltb i n ≡ t → place n d (all_of n d) i ≡ d
+  unfolding all_of
+  none_at true d n i h = rw h (get_or-replicate n i d d (ltb-true i n h))
+  none_at false d n i h = place_out d (all_of n d) n i h
 
   -- the default everywhere
-  pub place_none : (d : A) (n m i : ℕ) → place n d (all_of m d) i ≡ d
-  unfolding all_of
-  place_none d n m i = both (ltb i n) _ d (getD_none d m i)
+  pub place_none : (d : A) (n i : ℕ) → place n d (all_of n d) i ≡ d
+  place_none d n i = none_at (ltb i n) d n i refl
 
 module _ {N : ℕ} (e : Eeprom N) (n b : ℕ) where
   pub staged_cell : n < N → length e.cells ≡ N → record { cells = set e.cells n (staging b (get_or e.cells n blank)) } ≡ stages e n b

@@ -7,7 +7,7 @@ use Rattle.part.specs.declared.levels.Levels.{Levels}
 use Rattle.part.specs.Ops.{is}
 use Rattle.part.specs.Keeps.{Keeps, Addresses, Aims, Takes, Settles}
 use Rattle.eeprom.specs.Cells.{is_busy}
-use Rattle.eeprom.proofs.OnePart.{unstages_rests, fixed, lasting, unstaged, still, dropped, drops, Moves, keeps_part}
+use Rattle.eeprom.proofs.OnePart.{unstages_rests, fixed, lasting, unstaged, still, dropped, drops, OwnMoves, keeps_part}
 use Rattle.x9520.specs.declared.state.Flags.{Flags}
 use Rattle.x9520.specs.declared.state.Mode.{Mode}
 use Rattle.x9520.specs.declared.state.Mode.TheVariants.{Idle, Aiming, MemoryBytes, DcpByte, RegisterByte, Moved, Latching, Storing, Reading}
@@ -105,7 +105,7 @@ settles = record {
   after_finish = λ s l q h. ap (λ t. x9520.finish t q) h;
 }
 
-pub moves : Moves as_part
+pub moves : OwnMoves as_part
 moves = record {
   put = λ s e. refl;
   put_heard = λ s e. refl;
