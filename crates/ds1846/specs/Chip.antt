@@ -1,11 +1,13 @@
 -- The DS1846 with A0 HIGH, as functions over its state. Assumes nothing.
 -- k is a numbered part's number, of which there is only 0; i is a cell's number, j a wiper's;
 -- a is the transfer's address byte, x a byte, l the levels.
-use Rattle.std.specs.Prelude.{ℕ, ◌+◌, ◌*◌, ◌/◌, ◌%◌, Bool, true, false, cond, not, ◌&&◌, Some, None, Option, ◌==◌, nat_lt}
+use Rattle.std.specs.Prelude.{ℕ, ◌+◌, ◌/◌, ◌%◌, Bool, true, false, cond, not, ◌&&◌, Some, None, Option, ◌==◌, nat_lt}
 use Rattle.part.specs.declared.levels.Levels.{Levels}
 use Rattle.part.specs.Ops.{Ops}
 use Rattle.eeprom.specs.declared.Eeprom.{Eeprom}
-use Rattle.eeprom.specs.Cells.{byte_at, staged_at, under_at, is_busy, all_fresh, stages, unstages, begins, finishes, cuts}
+use Rattle.eeprom.specs.Cells.{byte_at, is_busy, all_fresh, stages, unstages, stopped, cuts}
+use Rattle.eeprom.specs.OnePart.{OnePart, part_of}
+use Rattle.eeprom.specs.Pages.{next_in_page}
 use Rattle.ds1846.specs.declared.state.Ds1846.{Ds1846}
 use Rattle.ds1846.specs.declared.state.Mode.{Mode}
 use Rattle.ds1846.specs.declared.state.Mode.TheVariants.{Idle, Aiming, Writing, Reading}
@@ -17,14 +19,7 @@ chip e n m = record { eeprom = e; counter = n; mode = m }
 abbrev pub fresh : Ds1846
 fresh = chip all_fresh 0 Idle
 
--- what holds of part 0, or of any other
-abbrev pub of_part : {A : Type 0} → ℕ → A → A → A
-of_part k mine other = cond (k == 0) mine other
-
--- its one address, 51h: A2h is the address byte for writing, A3h that for reading
-abbrev pub owner_of : ℕ → Option ℕ
-owner_of n = cond (n == 81) (Some 0) None
-
+-- its one address is 51h: A2h is the address byte for writing, A3h that for reading
 abbrev pub heard_in : Mode → Option ℕ
 heard_in Idle = None
 heard_in Aiming = Some 162
@@ -64,7 +59,7 @@ abbrev pub takes : Ds1846 → ℕ → Levels → Bool
 takes s a l = is_writing s.mode && (a == 162 && (not (is_busy s.eeprom) && not l.wp))
 
 abbrev pub in_page : ℕ → ℕ
-in_page n = n / 8 * 8 + (n % 8 + 1) % 8
+in_page = next_in_page 8
 
 abbrev pub cells_taken : Bool → Eeprom 256 → ℕ → ℕ → Eeprom 256
 cells_taken true e n x = stages e n x
@@ -90,11 +85,6 @@ given turn s = cond turn (byte_at s.eeprom s.counter) 255
 abbrev pub gave : Bool → Ds1846 → Ds1846
 gave turn s = chip s.eeprom (cond turn ((s.counter + 1) % 256) s.counter) s.mode
 
--- a clean STOP with WP LOW begins the writes staged; any other drops them
-abbrev pub cells_stopped : Bool → Eeprom 256 → Eeprom 256
-cells_stopped true e = begins e
-cells_stopped false e = unstages e
-
 -- the wipers follow the lasting bytes: wiper 1 has 256 taps; of wipers 0 and 2 the low seven bits count, up to tap 99
 abbrev pub tap_of : ℕ → ℕ
 tap_of n = cond (nat_lt 99 n) 99 n
@@ -104,22 +94,16 @@ tap_at e j =
     cond (j == 0) (tap_of (byte_at e 249 % 128))
     (cond (j == 1) (byte_at e 248) (cond (j == 2) (tap_of (byte_at e 250 % 128)) 0))
 
-abbrev pub ds1846 : Ops Ds1846
-ds1846 = record {
-  count = λ s. 1;
-  has = λ s n. (n == 81);
-  owner = λ s n. owner_of n;
-  cells = λ s k. of_part k 256 0;
-  wipers = λ s k. of_part k 3 0;
-  offset = λ s k i. i % 16;
-  cell = λ s k i. of_part k (byte_at s.eeprom i) 0;
-  staged = λ s k i. of_part k (staged_at s.eeprom i) None;
-  under = λ s k i. of_part k (under_at s.eeprom i) None;
-  busy = λ s k. of_part k (is_busy s.eeprom) false;
-  tap = λ s k j. of_part k (tap_at s.eeprom j) 0;
+-- a clean STOP with WP LOW begins the writes staged; any other drops them
+abbrev pub as_part : OnePart Ds1846 256
+as_part = record {
+  has = λ n. (n == 81);
+  wipers = 3;
+  eeprom = λ s. s.eeprom;
+  with_eeprom = λ s e. chip e s.counter s.mode;
+  tap = λ s j. tap_at s.eeprom j;
   heard = λ s. heard_in s.mode;
-  hears = hears;
-  renew = λ s. fresh;
+  fresh = fresh;
   start = λ s. chip (unstages s.eeprom) s.counter Idle;
   address = λ s x. chip s.eeprom s.counter (mode_after (hears s x) x);
   aims = λ s a l x. aims s a;
@@ -129,7 +113,9 @@ ds1846 = record {
   given = λ s a. given (reads s a) s;
   give = λ s a. gave (reads s a) s;
   level = λ s l. s;
-  stop = λ s clean l. chip (cells_stopped (clean && not l.wp) s.eeprom) s.counter Idle;
-  finish = λ s k. chip (of_part k (finishes s.eeprom) s.eeprom) s.counter s.mode;
+  stop = λ s clean l. chip (stopped (clean && not l.wp) s.eeprom) s.counter Idle;
   cut = λ s p. chip (cuts s.eeprom p.mask) 0 Idle;
 }
+
+abbrev pub ds1846 : Ops Ds1846
+ds1846 = part_of as_part

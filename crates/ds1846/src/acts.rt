@@ -1,11 +1,13 @@
 // What the chip answers, and what moves it.
 ghost use Rattle.std.specs.Prelude.{◌≡◌};
 ghost use Rattle.eeprom.specs.Cells.{byte_at, unstages};
-ghost use Rattle.ds1846.specs.Chip.{ds1846, chip, is_aiming, is_writing, is_reading, tap_of};
+ghost use Rattle.ds1846.specs.Chip.{ds1846, chip, tap_of};
 ghost use Rattle.ds1846.specs.declared.state.Mode.TheVariants.{Idle};
 ghost use Rattle.ds1846.specs.Keeping.{keeps_ds1846};
 
 use super::state::{Ds1846, Mode};
+use eeprom::pages::next_in_page;
+use eeprom::parts::of_part;
 use part::Part;
 use part::levels::Levels;
 use part::power::PowerCut;
@@ -16,38 +18,11 @@ const WRITE: u8 = 0xa2;
 
 const READ: u8 = 0xa3;
 
-fn is_aiming(mode: Mode) -> bool
-    ensures { result ≡ is_aiming mode }
-{
-    match mode {
-        Mode::Aiming => true,
-        _ => false,
-    }
-}
-
-fn is_writing(mode: Mode) -> bool
-    ensures { result ≡ is_writing mode }
-{
-    match mode {
-        Mode::Writing => true,
-        _ => false,
-    }
-}
-
-fn is_reading(mode: Mode) -> bool
-    ensures { result ≡ is_reading mode }
-{
-    match mode {
-        Mode::Reading => true,
-        _ => false,
-    }
-}
-
 // The tap of a wiper that has 100: what is above the last means the last.
 fn tap_of(n: u8) -> u16
     ensures { result ≡ tap_of n }
 {
-    if 99 < n { 99 } else { n as u16 }
+    u16::from(n.min(99))
 }
 
 impl Ds1846 {
@@ -72,7 +47,7 @@ impl Part for Ds1846 {
     ghost keeps = { keeps_ds1846 };
 
     fn past(&self, part: usize) -> Option<usize> {
-        if part < 1 { None } else { Some(part - 1) }
+        part.checked_sub(1)
     }
 
     fn has(&self, address: u8) -> bool {
@@ -84,7 +59,7 @@ impl Part for Ds1846 {
     }
 
     fn cell(&self, part: usize, n: usize) -> Option<u8> {
-        if part == 0 { self.eeprom.byte(n) } else { None }
+        of_part(part, self.eeprom.byte(n), None)
     }
 
     fn offset(&self, _part: usize, n: usize) -> u8 {
@@ -92,19 +67,11 @@ impl Part for Ds1846 {
     }
 
     fn staged(&self, part: usize, n: usize) -> Option<u8> {
-        if part == 0 {
-            self.eeprom.staged(n)
-        } else {
-            None
-        }
+        of_part(part, self.eeprom.staged(n), None)
     }
 
     fn under_way(&self, part: usize, n: usize) -> Option<u8> {
-        if part == 0 {
-            self.eeprom.under_way(n)
-        } else {
-            None
-        }
+        of_part(part, self.eeprom.under_way(n), None)
     }
 
     fn busy(&self, part: usize) -> bool {
@@ -112,13 +79,10 @@ impl Part for Ds1846 {
     }
 
     fn tap(&self, part: usize, n: usize) -> Option<u16> {
-        if part != 0 {
-            return None;
-        }
-        match n {
-            0 => Some(tap_of(self.byte(0xf9) % 128)),
-            1 => Some(self.byte(0xf8) as u16),
-            2 => Some(tap_of(self.byte(0xfa) % 128)),
+        match (part, n) {
+            (0, 0) => Some(tap_of(self.byte(0xf9) % 128)),
+            (0, 1) => Some(u16::from(self.byte(0xf8))),
+            (0, 2) => Some(tap_of(self.byte(0xfa) % 128)),
             _ => None,
         }
     }
@@ -126,8 +90,7 @@ impl Part for Ds1846 {
     fn heard(&self) -> Option<u8> {
         match self.mode {
             Mode::Idle => None,
-            Mode::Aiming => Some(WRITE),
-            Mode::Writing => Some(WRITE),
+            Mode::Aiming | Mode::Writing => Some(WRITE),
             Mode::Reading => Some(READ),
         }
     }
@@ -157,7 +120,7 @@ impl Part for Ds1846 {
     }
 
     fn aim(&mut self, address: u8, _levels: Levels, byte: u8) -> bool {
-        let ack = is_aiming(self.mode) && address == WRITE && !self.eeprom.busy();
+        let ack = self.mode == Mode::Aiming && address == WRITE && !self.eeprom.busy();
         self.leave();
         if ack {
             self.counter = byte;
@@ -167,10 +130,13 @@ impl Part for Ds1846 {
     }
 
     fn take(&mut self, address: u8, levels: Levels, byte: u8) -> bool {
-        let ack = is_writing(self.mode) && address == WRITE && !self.eeprom.busy() && !levels.wp;
+        let ack = self.mode == Mode::Writing
+            && address == WRITE
+            && !self.eeprom.busy()
+            && !levels.wp;
         if ack {
             self.eeprom.stage(self.counter as usize, byte);
-            self.counter = self.counter / 8 * 8 + (self.counter % 8 + 1) % 8;
+            self.counter = next_in_page::<8>(self.counter);
         } else {
             self.leave();
         }
@@ -178,7 +144,7 @@ impl Part for Ds1846 {
     }
 
     fn give(&mut self, address: u8) -> u8 {
-        if !is_reading(self.mode) || address != READ {
+        if self.mode != Mode::Reading || address != READ {
             return 0xff;
         }
         let byte = self.byte(self.counter as usize);
@@ -189,11 +155,7 @@ impl Part for Ds1846 {
     fn level(&mut self, _levels: Levels) {}
 
     fn stop(&mut self, clean: bool, levels: Levels) {
-        if clean && !levels.wp {
-            self.eeprom.begin();
-        } else {
-            self.eeprom.unstage();
-        }
+        self.eeprom.stop(clean && !levels.wp);
         self.mode = Mode::Idle;
     }
 

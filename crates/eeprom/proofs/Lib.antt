@@ -1,4 +1,5 @@
 pub mod Busy
 pub mod Moves
 pub mod Numbered
+pub mod OnePart
 pub mod Places

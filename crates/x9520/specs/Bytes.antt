@@ -5,9 +5,11 @@ use borrow.Author.Tests.{clash}
 use Rattle.std.proofs.lemmas.Bool.{eqb-true, eqb-false}
 use Rattle.part.specs.Ops.{is}
 use Rattle.eeprom.specs.declared.Eeprom.{Eeprom}
-use Rattle.eeprom.specs.Cells.{byte_at, staged_at, under_at, of_part}
+use Rattle.eeprom.specs.Cells.{staged_at}
+use Rattle.eeprom.specs.OnePart.{of_part}
 use Rattle.eeprom.proofs.Moves.{unstages_staged}
 use Rattle.eeprom.proofs.Numbered.{staged_by}
+use Rattle.eeprom.proofs.OnePart.{Rests, rests, unstages_rests, stages_rests}
 use Rattle.dcp.specs.declared.dcp.Dcp.{Dcp}
 use Rattle.protection.specs.declared.latches.Latches.{Latches}
 use Rattle.x9520.specs.declared.state.Device.{Device}
@@ -25,24 +27,15 @@ either : {V : Type 0} (P : V → Type 0) (b : Bool) (u v : V) → P u → P v �
 either P true u v p q = p
 either P false u v p q = q
 
--- the lasting cells
-pub taken_byte : (v : Verdict) (e : Eeprom 260) (n m x i : ℕ) → byte_at (cells_taken v e n m x) i ≡ byte_at e i
-taken_byte refused e n m x i = refl
-taken_byte barred e n m x i = refl
-taken_byte pages e n m x i = refl
-taken_byte (moves true) e n m x i = refl
-taken_byte (moves false) e n m x i = refl
-taken_byte latches e n m x i = refl
-taken_byte stores e n m x i = refl
-
-pub taken_under : (v : Verdict) (e : Eeprom 260) (n m x i : ℕ) → under_at (cells_taken v e n m x) i ≡ under_at e i
-taken_under refused e n m x i = refl
-taken_under barred e n m x i = refl
-taken_under pages e n m x i = refl
-taken_under (moves true) e n m x i = refl
-taken_under (moves false) e n m x i = refl
-taken_under latches e n m x i = refl
-taken_under stores e n m x i = refl
+-- the lasting cells, and the writes under way
+pub taken_rests : (v : Verdict) (e : Eeprom 260) (n m x : ℕ) → Rests e (cells_taken v e n m x)
+taken_rests refused e n m x = unstages_rests e
+taken_rests barred e n m x = unstages_rests e
+taken_rests pages e n m x = stages_rests e n x
+taken_rests (moves true) e n m x = stages_rests e (256 + m) x
+taken_rests (moves false) e n m x = rests e
+taken_rests latches e n m x = rests e
+taken_rests stores e n m x = stages_rests e 259 x
 
 pub taken_none : (v : Verdict) (e : Eeprom 260) (n m x i : ℕ) → acks v ≡ false → staged_at (cells_taken v e n m x) i ≡ None
 taken_none refused e n m x i h = unstages_staged e i

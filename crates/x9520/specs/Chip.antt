@@ -4,7 +4,8 @@
 use Rattle.std.specs.Prelude.{ℕ, ◌+◌, ◌/◌, ◌%◌, Bool, false, cond, not, ◌&&◌, List, Some, None, Option, nat_lt, slice_index_or}
 use Rattle.part.specs.declared.levels.Levels.{Levels}
 use Rattle.part.specs.Ops.{Ops, is}
-use Rattle.eeprom.specs.Cells.{byte_at, staged_at, under_at, is_busy, unstages, stopped, finishes, cuts, of_part}
+use Rattle.eeprom.specs.Cells.{byte_at, is_busy, unstages, stopped, cuts}
+use Rattle.eeprom.specs.OnePart.{OnePart, part_of}
 use Rattle.dcp.specs.declared.dcp.Dcp.{Dcp}
 use Rattle.dcp.specs.Wiper.{tap_of}
 use Rattle.protection.specs.declared.latches.Latches.{Latches}
@@ -96,22 +97,15 @@ stopped_chip s clean l =
 abbrev pub tap_at : List Dcp → ℕ → ℕ
 tap_at d j = cond (nat_lt j 3) (tap_of (slice_index_or d j no_dcp)) 0
 
-abbrev pub x9520 : Ops X9520
-x9520 = record {
-  count = λ s. 1;
-  has = λ s n. known n;
-  owner = λ s n. cond (known n) (Some 0) None;
-  cells = λ s k. of_part k 260 0;
-  wipers = λ s k. of_part k 3 0;
-  offset = λ s k i. i % 16;
-  cell = λ s k i. of_part k (byte_at s.eeprom i) 0;
-  staged = λ s k i. of_part k (staged_at s.eeprom i) None;
-  under = λ s k i. of_part k (under_at s.eeprom i) None;
-  busy = λ s k. of_part k (is_busy s.eeprom) false;
-  tap = λ s k j. of_part k (tap_at s.dcps j) 0;
+abbrev pub as_part : OnePart X9520 260
+as_part = record {
+  has = known;
+  wipers = 3;
+  eeprom = λ s. s.eeprom;
+  with_eeprom = λ s e. chip e s.dcps s.latches s.flags s.counter s.named s.mode;
+  tap = λ s j. tap_at s.dcps j;
   heard = λ s. heard_in s.mode;
-  hears = hears;
-  renew = λ s. fresh;
+  fresh = fresh;
   start = λ s. chip (unstages s.eeprom) s.dcps s.latches s.flags s.counter s.named Idle;
   address = λ s x. chip (unstages s.eeprom) s.dcps s.latches s.flags s.counter s.named (mode_after (hears s x) x);
   aims = λ s a l x. aim_acks (aim_of s a x);
@@ -122,6 +116,8 @@ x9520 = record {
   give = λ s a. gave (source s a) s;
   level = λ s l. chip s.eeprom s.dcps s.latches (flags_at s.flags l) s.counter s.named s.mode;
   stop = stopped_chip;
-  finish = λ s k. chip (of_part k (finishes s.eeprom) s.eeprom) s.dcps s.latches s.flags s.counter s.named s.mode;
   cut = λ s p. powered (cuts s.eeprom p.mask);
 }
+
+abbrev pub x9520 : Ops X9520
+x9520 = part_of as_part

@@ -1,8 +1,9 @@
 -- Bytes that are written to an X9520: the first byte after a write address, and the data bytes.
-use Rattle.std.specs.Prelude.{ℕ, ◌+◌, ◌*◌, ◌/◌, ◌%◌, Bool, true, false, cond, not, ◌&&◌, ◌||◌, List, ◌==◌, nat_le, nat_lt, slice_index_or, slice_set}
+use Rattle.std.specs.Prelude.{ℕ, ◌+◌, ◌%◌, Bool, true, false, cond, not, ◌&&◌, ◌||◌, List, ◌==◌, nat_le, nat_lt, slice_index_or, slice_set}
 use Rattle.part.specs.Ops.{is}
 use Rattle.eeprom.specs.declared.Eeprom.{Eeprom}
 use Rattle.eeprom.specs.Cells.{stages, unstages}
+use Rattle.eeprom.specs.Pages.{next_in_page}
 use Rattle.dcp.specs.declared.dcp.Dcp.{Dcp}
 use Rattle.dcp.specs.Wiper.{at_byte}
 use Rattle.protection.specs.declared.latches.Latches.{Latches}
@@ -166,7 +167,7 @@ latches_taken stores l = l
 
 -- the counter goes up within its page of sixteen cells
 abbrev pub in_page : ℕ → ℕ
-in_page n = n / 16 * 16 + (n % 16 + 1) % 16
+in_page = next_in_page 16
 
 abbrev pub counter_taken : Verdict → ℕ → ℕ
 counter_taken refused n = n

@@ -1,7 +1,7 @@
 // What the chip answers, and what moves it.
-ghost use Rattle.std.specs.Prelude.{◌≡◌};
+ghost use Rattle.std.specs.Prelude.{◌≡◌, ◌/◌, if◌then◌else◌};
 ghost use Rattle.part.specs.Ops.{is};
-ghost use Rattle.x9520.specs.Chip.{x9520, latches_stopped, flags_stopped};
+ghost use Rattle.x9520.specs.Chip.{x9520, hears, latches_stopped, flags_stopped};
 ghost use Rattle.x9520.specs.Register.{stored_register};
 ghost use Rattle.x9520.specs.State.{known, device, write_byte, heard_in};
 ghost use Rattle.x9520.specs.Writing.{aim_for, aim_acks, aimed};
@@ -9,25 +9,22 @@ ghost use Rattle.x9520.specs.Keeping.{keeps_x9520};
 
 use super::register::latched;
 use super::state::{Device, Flags, Mode, X9520};
+use eeprom::parts::of_part;
 use part::Part;
 use part::levels::Levels;
 use part::power::PowerCut;
 use protection::latches::Latches;
 use protection::lock::wp_forbids;
 
-fn known(address: u8) -> bool
-    ensures { result ≡ known address }
-{
-    address == 0x50 || address == 0x52 || address == 0x57
-}
-
-fn device(address: u8) -> Device
-    ensures { result ≡ device address }
+// What an address of the chip stands for.
+fn device_at(address: u8) -> Option<Device>
+    ensures { result ≡ (if known address then Some (device address) else None) }
 {
     match address {
-        0x50 => Device::Memory,
-        0x52 => Device::Register,
-        _ => Device::Dcps,
+        0x50 => Some(Device::Memory),
+        0x52 => Some(Device::Register),
+        0x57 => Some(Device::Dcps),
+        _ => None,
     }
 }
 
@@ -49,11 +46,8 @@ fn heard_in(mode: Mode) -> Option<u8>
         Mode::Idle => None,
         Mode::Aiming { device } => Some(write_byte(device)),
         Mode::MemoryBytes => Some(0xa0),
-        Mode::DcpByte { store: _ } => Some(0xae),
-        Mode::RegisterByte => Some(0xa4),
-        Mode::Moved => Some(0xae),
-        Mode::Latching { byte: _ } => Some(0xa4),
-        Mode::Storing { byte: _ } => Some(0xa4),
+        Mode::DcpByte { .. } | Mode::Moved => Some(0xae),
+        Mode::RegisterByte | Mode::Latching { .. } | Mode::Storing { .. } => Some(0xa4),
         Mode::Reading { device } => Some(write_byte(device) + 1),
     }
 }
@@ -63,9 +57,17 @@ impl X9520 {
     fn in_turn(&self, byte: u8) -> bool
         ensures { result ≡ is byte (heard_in self.now.mode) }
     {
-        match heard_in(self.mode) {
-            Some(heard) => heard == byte,
-            None => false,
+        self.heard() == Some(byte)
+    }
+
+    // What an address byte that is heard now is for.
+    fn device_heard(&self, byte: u8) -> Option<Device>
+        ensures { result ≡ (if hears self.now byte then Some (device (byte / 2)) else None) }
+    {
+        if self.eeprom.busy() {
+            None
+        } else {
+            device_at(byte / 2)
         }
     }
 
@@ -81,22 +83,17 @@ impl X9520 {
                 self.mode = Mode::MemoryBytes;
                 true
             }
-            Device::Register => {
-                if byte != 0xff {
-                    return false;
-                }
+            Device::Register if byte == 0xff => {
                 self.mode = Mode::RegisterByte;
                 true
             }
-            Device::Dcps => {
-                if byte % 128 >= 3 {
-                    return false;
-                }
+            Device::Dcps if byte % 128 < 3 => {
                 self.named = byte % 128;
                 let store = byte >= 128;
                 self.mode = Mode::DcpByte { store };
                 true
             }
+            _ => false,
         }
     }
 
@@ -104,23 +101,16 @@ impl X9520 {
     fn latches_stopped(&self, clean: bool, wp: bool) -> Latches
         ensures { result ≡ latches_stopped self.now.mode clean wp (stored_register self.now) self.now.latches }
     {
+        let mut latches = self.latches;
         match self.mode {
-            Mode::Latching { byte } => {
-                let register = self.stored_register();
-                if clean && !wp_forbids(false, wp, register) {
-                    latched(self.latches, byte)
-                } else {
-                    self.latches
-                }
+            Mode::Latching { byte } if clean && !wp_forbids(false, wp, self.stored_register()) => {
+                latched(latches, byte)
             }
-            Mode::Storing { byte: _ } => {
-                let mut latches = self.latches;
-                if clean && !wp {
-                    latches.disarm();
-                }
+            Mode::Storing { .. } if clean && !wp => {
+                latches.disarm();
                 latches
             }
-            _ => self.latches,
+            _ => latches,
         }
     }
 
@@ -129,16 +119,10 @@ impl X9520 {
         ensures { result ≡ flags_stopped self.now.mode begins levels self.now.flags }
     {
         match self.mode {
-            Mode::Storing { byte } => {
-                if begins {
-                    Flags {
-                        v2os: byte / 64 % 2 == 1 && levels.v2ro,
-                        v3os: byte / 32 % 2 == 1 && levels.v3ro,
-                    }
-                } else {
-                    self.flags
-                }
-            }
+            Mode::Storing { byte } if begins => Flags {
+                v2os: byte / 64 % 2 == 1 && levels.v2ro,
+                v3os: byte / 32 % 2 == 1 && levels.v3ro,
+            },
             _ => self.flags,
         }
     }
@@ -150,11 +134,11 @@ impl Part for X9520 {
     ghost keeps = { keeps_x9520 };
 
     fn past(&self, part: usize) -> Option<usize> {
-        if part < 1 { None } else { Some(part - 1) }
+        part.checked_sub(1)
     }
 
     fn has(&self, address: u8) -> bool {
-        known(address)
+        device_at(address).is_some()
     }
 
     fn owns(&self, part: usize, address: u8) -> bool {
@@ -162,7 +146,7 @@ impl Part for X9520 {
     }
 
     fn cell(&self, part: usize, n: usize) -> Option<u8> {
-        if part == 0 { self.eeprom.byte(n) } else { None }
+        of_part(part, self.eeprom.byte(n), None)
     }
 
     fn offset(&self, _part: usize, n: usize) -> u8 {
@@ -170,19 +154,11 @@ impl Part for X9520 {
     }
 
     fn staged(&self, part: usize, n: usize) -> Option<u8> {
-        if part == 0 {
-            self.eeprom.staged(n)
-        } else {
-            None
-        }
+        of_part(part, self.eeprom.staged(n), None)
     }
 
     fn under_way(&self, part: usize, n: usize) -> Option<u8> {
-        if part == 0 {
-            self.eeprom.under_way(n)
-        } else {
-            None
-        }
+        of_part(part, self.eeprom.under_way(n), None)
     }
 
     fn busy(&self, part: usize) -> bool {
@@ -190,11 +166,7 @@ impl Part for X9520 {
     }
 
     fn tap(&self, part: usize, n: usize) -> Option<u16> {
-        if part == 0 && n < 3 {
-            Some(self.wiper_tap(n))
-        } else {
-            None
-        }
+        of_part(part, self.wiper_tap(n), None)
     }
 
     fn heard(&self) -> Option<u8> {
@@ -202,7 +174,7 @@ impl Part for X9520 {
     }
 
     fn hears(&self, byte: u8) -> bool {
-        known(byte / 2) && !self.eeprom.busy()
+        self.device_heard(byte).is_some()
     }
 
     fn renew(&mut self) {
@@ -210,22 +182,18 @@ impl Part for X9520 {
     }
 
     fn start(&mut self) {
-        self.eeprom.unstage();
-        self.mode = Mode::Idle;
+        self.leave();
     }
 
     fn address(&mut self, byte: u8) -> bool {
-        let ack = self.hears(byte);
-        let device = device(byte / 2);
+        let heard = self.device_heard(byte);
         self.leave();
-        self.mode = if !ack {
-            Mode::Idle
-        } else if byte % 2 == 1 {
-            Mode::Reading { device }
-        } else {
-            Mode::Aiming { device }
+        self.mode = match heard {
+            Some(device) if byte % 2 == 1 => Mode::Reading { device },
+            Some(device) => Mode::Aiming { device },
+            None => Mode::Idle,
         };
-        ack
+        heard.is_some()
     }
 
     fn aim(&mut self, address: u8, _levels: Levels, byte: u8) -> bool {

@@ -1,5 +1,6 @@
 // The DCPs: a byte moves the named wiper, and may be stored as well.
 ghost use Rattle.std.specs.Prelude.{◌≡◌};
+ghost use Rattle.part.specs.Ops.{below};
 ghost use Rattle.x9520.specs.Chip.{wiper_register, tap_at};
 ghost use Rattle.x9520.specs.Register.{stored_register};
 ghost use Rattle.x9520.specs.Writing.{dcp_verdict, acks, taken, with_moved};
@@ -39,13 +40,14 @@ impl X9520 {
     pub(super) fn wiper_register(&self) -> u8
         ensures { result ≡ wiper_register self.now.dcps self.now.named }
     {
-        let n = self.named as usize;
-        if n < 3 { self.dcps[n].register() } else { 0 }
+        let named = self.dcps.get(self.named as usize);
+        named.map_or(0, |dcp| dcp.register())
     }
 
-    pub(super) fn wiper_tap(&self, n: usize) -> u16
-        ensures { result ≡ tap_at self.now.dcps n }
+    // Where a wiper stands, or none where there is no such one.
+    pub(super) fn wiper_tap(&self, n: usize) -> Option<u16>
+        ensures { result ≡ below 3 n (tap_at self.now.dcps n) }
     {
-        if n < 3 { self.dcps[n].tap() } else { 0 }
+        self.dcps.get(n).map(|dcp| dcp.tap())
     }
 }

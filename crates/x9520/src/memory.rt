@@ -2,18 +2,12 @@
 ghost use Rattle.std.specs.Prelude.{◌≡◌, Some};
 ghost use Rattle.x9520.specs.Chip.{given, gave};
 ghost use Rattle.x9520.specs.Register.{stored_register};
-ghost use Rattle.x9520.specs.Writing.{memory_verdict, acks, taken, in_page};
+ghost use Rattle.x9520.specs.Writing.{memory_verdict, acks, taken};
 ghost use Rattle.x9520.specs.declared.state.Device.TheVariants.{Memory};
 
 use super::state::{Mode, X9520};
+use eeprom::pages::next_in_page;
 use protection::lock::{locks_memory, wp_forbids};
-
-// The next cell of a page of sixteen.
-fn in_page(counter: u8) -> u8
-    ensures { result ≡ in_page counter }
-{
-    counter / 16 * 16 + (counter % 16 + 1) % 16
-}
 
 impl X9520 {
     pub(super) fn take_memory(&mut self, wp: bool, byte: u8) -> bool
@@ -32,7 +26,7 @@ impl X9520 {
             return self.refuse();
         }
         self.eeprom.stage(self.counter as usize, byte);
-        self.counter = in_page(self.counter);
+        self.counter = next_in_page::<16>(self.counter);
         self.mode = Mode::MemoryBytes;
         true
     }

@@ -1,23 +1,16 @@
 // The register: its byte, and what a byte written to it does, when it is taken and at the STOP.
 ghost use Rattle.std.specs.Prelude.{◌≡◌};
-ghost use Rattle.x9520.specs.Register.{weigh, stored_register, register_byte, latched};
+ghost use Rattle.x9520.specs.Register.{stored_register, register_byte, latched};
 ghost use Rattle.x9520.specs.Writing.{latches, armed_verdict, register_verdict, acks, taken};
 
 use super::state::{Mode, X9520};
 use protection::latches::Latches;
 use protection::lock::wp_forbids;
 
-fn weigh(weight: u8, flag: bool) -> u8
-    ensures { result ≡ weigh weight flag }
-{
-    if flag { weight } else { 0 }
-}
-
 // The latches after a latch byte.
-pub(super) fn latched(latches: Latches, byte: u8) -> Latches
+pub(super) fn latched(mut latches: Latches, byte: u8) -> Latches
     ensures { result ≡ latched latches byte }
 {
-    let mut latches = latches;
     match byte {
         0 => latches = Latches::new(),
         2 => latches.enable(),
@@ -33,11 +26,11 @@ impl X9520 {
     {
         let stored = self.stored_register();
         stored / 128 * 128
-            + weigh(64, self.flags.v2os)
-            + weigh(32, self.flags.v3os)
+            + u8::from(self.flags.v2os) * 64
+            + u8::from(self.flags.v3os) * 32
             + stored / 8 % 4 * 8
-            + weigh(4, self.latches.rwel())
-            + weigh(2, self.latches.wel())
+            + u8::from(self.latches.rwel()) * 4
+            + u8::from(self.latches.wel()) * 2
             + stored % 2
     }
 

@@ -1,16 +1,16 @@
-use Rattle.std.proofs.Common.{is_some, sym, refl, ap, ◌∙◌}
-use Rattle.eeprom.specs.Cells.{any_of, under_at}
-use Rattle.eeprom.proofs.Busy.{any_if, any_more}
+use Rattle.std.proofs.Common.{◌≡◌, length, is_some, ap, ◌∙◌, rules}
+use borrow.Author.Tests.{tests}
+use Rattle.std.proofs.lemmas.Iterator.{YieldsList-from_slice}
+use Rattle.std.proofs.lemmas.Iterator.Search.{any_from_yields_List}
+use Rattle.std.specs.List.{list_any}
+use Rattle.eeprom.specs.Cells.{blank}
+use Rattle.eeprom.proofs.Places.{table_of}
 use Rattle.eeprom.proofs.Eeprom.busy.Goals as goal
 
-pub returns-then-is_some : goal.returns-then-is_some
-returns-then-is_some g c =
-    sym (any_if g.row.N c.loop-i.i (under_at c.args.self.now) c.loop-i-test.true (ap is_some (sym c.under_way.ensures) ∙ sym c.if-is_some.ensures))
-
-pub loop-i-preserved : goal.loop-i-preserved
-loop-i-preserved g c =
-    any_more c.loop-i.i (under_at c.args.self.now) c.loop-i.invariant (ap is_some (sym c.under_way.ensures) ∙ sym c.if-is_some.ensures)
-
-pub loop-i-init : goal.loop-i-init
-unfolding any_of
-loop-i-init g c = refl
+pub returns : goal.returns
+returns g c =
+    let cells = c.args.self.now.cells in
+    let long : length cells ≡ g.row.N = search rules in
+    let found : c.any.result ≡ list_any (λ w. is_some w.under) cells =
+    any_from_yields_List (λ w. is_some w.under) _ _ c.any.result c.any.ensures.ran (YieldsList-from_slice cells cc) (λ x b q k. search (rules, tests)) in
+    found ∙ ap (list_any (λ w. is_some w.under)) (table_of blank cells g.row.N long)

@@ -1,15 +1,7 @@
-use Rattle.std.proofs.Common.{None, ap, ◌∙◌, arith}
-use lib.ListN.{length-replicate}
-use Rattle.std.proofs.lemmas.List.FromFn.{fill_by_all}
-use Rattle.eeprom.specs.Cells.{table, all_of}
+use Rattle.std.proofs.Common.{ap, rules}
+use Rattle.eeprom.specs.Cells.{blank}
+use Rattle.eeprom.proofs.Places.{made_table}
 use Rattle.eeprom.proofs.Eeprom.cut.Goals as goal
 
-pub loop-i-init : goal.loop-i-init
-loop-i-init g c = (length-replicate _ _, λ k h. absurd (omega arith))
-
 pub returns : goal.returns
-unfolding table
-returns g c =
-    c.unstage.ensures ∙ ap (λ w. record { bytes = c.loop-i.bytes; staged = all_of g.row.N None; under = w }) c.all-nothing.ensures ∙ ap
-    (λ xs. record { bytes = xs; staged = all_of g.row.N None; under = all_of g.row.N None })
-    (fill_by_all _ c.loop-i.bytes g.row.N 0 c.loop-i.invariant.0 (λ k h. c.loop-i.invariant.1 k (omega arith)))
+returns g c = ap (λ xs. record { cells = xs }) (made_table _ _ _ blank _ _ c.from_fn-self.ensures.items (λ i y q k. search rules))
