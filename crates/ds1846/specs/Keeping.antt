@@ -8,7 +8,7 @@ use Rattle.part.specs.Keeps.{Keeps, Still, Addresses, Aims, Takes, Settles}
 use Rattle.eeprom.specs.declared.Eeprom.{Eeprom}
 use Rattle.eeprom.specs.Cells.{byte_at, staged_at, is_busy}
 use Rattle.eeprom.specs.OnePart.{of_part}
-use Rattle.eeprom.proofs.Moves.{unstages_byte, unstages_staged}
+use Rattle.eeprom.proofs.Moves.{unstages_staged}
 use Rattle.eeprom.proofs.Numbered.{staged_by}
 use Rattle.eeprom.proofs.OnePart.{Rests, rests, unstages_rests, stages_rests, fixed, lasting, unstaged, still, dropped, drops, OwnMoves, keeps_part}
 use Rattle.ds1846.specs.declared.state.Ds1846.{Ds1846}
@@ -63,7 +63,7 @@ aiming s a l x =
     let t = ds1846.aim s a l x in
     record {
       calm = drops as_part s t refl (forgets_by (aims s a) s.mode (aiming_heard s.mode _));
-      still = same_taps s t (unstages_byte s.eeprom);
+      still = same_taps s t (λ i. refl);
       unacked = λ h. dropped as_part s t refl;
     }
 

@@ -10,7 +10,7 @@ use Rattle.part.proofs.Busy.{Shows, always_chip}
 use Rattle.eeprom.specs.declared.Eeprom.{Eeprom}
 use Rattle.eeprom.specs.Cells.{byte_at, staged_at, under_at, is_busy, stages, unstages, stopped, finishes, cuts}
 use Rattle.eeprom.specs.OnePart.{OnePart, of_part, part_of}
-use Rattle.eeprom.proofs.Moves.{staged_in, under_in, stages_byte, stages_under, unstages_byte, unstages_staged, unstages_under, cuts_byte, cuts_staged, cuts_under}
+use Rattle.eeprom.proofs.Moves.{staged_in, under_in, unstages_staged, cuts_byte, cuts_staged, cuts_under}
 use Rattle.eeprom.proofs.Numbered.{part_none, other_part, owned, write_of, busy_of, busy_from, stopped_byte, stopped_staged, stopped_under, finish_stores, finish_ends, finish_staged, elsewhere, cut_stores, apart, deaf_while_busy, begins_in, never_busy}
 
 -- no lasting byte changes, and no write under way comes, goes or changes
@@ -23,10 +23,10 @@ module _ {N : ℕ} (e : Eeprom N) where
   rests = record { byte = λ i. refl; under = λ i. refl }
 
   pub unstages_rests : Rests e (unstages e)
-  unstages_rests = record { byte = unstages_byte e; under = unstages_under e }
+  unstages_rests = record { byte = λ i. refl; under = λ i. refl }
 
   pub stages_rests : (n b : ℕ) → Rests e (stages e n b)
-  stages_rests n b = record { byte = stages_byte e n b; under = stages_under e n b }
+  stages_rests n b = record { byte = λ i. refl; under = λ i. refl }
 
 module _ {S : Type 0} {N : ℕ} (c : OnePart S N) where
   pub fixed : (s t : S) → Fixed (part_of c) s t

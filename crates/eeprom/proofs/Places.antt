@@ -1,13 +1,13 @@
 -- What stands at a place of a table, and lists as tables. Assumes nothing.
-use Rattle.std.proofs.Common.{◌≡◌, ℕ, zero, suc, ◌<◌, Bool, true, false, cond, eqb, ltb, List, length, get_or, set, refl, ap, ◌∙◌, subst, ◌+◌, ◌≤◌, ⊎_elim, arith}
+use Rattle.std.proofs.Common.{◌≡◌, ℕ, zero, suc, ◌<◌, Bool, true, false, cond, eqb, ltb, List, length, get_or, set, Some, None, Option, sym, refl, ap, ◌∙◌, subst, ◌+◌, ◌≤◌, ⊎_elim, arith}
 use Rattle.std.specs.Array.{IsFromFnResult, IsFromFnResultFrom}
 use Rattle.std.specs.Fn.{Called}
 use denote.Param.Members.{Mut}
 use Rattle.std.proofs.lemmas.List.FromFn.{get_or-map-range_with_len, length-map-range_with_len, fill_by_all}
 use Rattle.std.proofs.lemmas.List.{length-set, get_or-set_same, get_or-set_other, get_or-replicate}
-use Rattle.std.proofs.lemmas.Bool.{ltb-true, lt-ltb, eq-eqb, ne_eqb, cases_eq}
+use Rattle.std.proofs.lemmas.Bool.{ltb-true, lt-ltb, le-ltb, eq-eqb, ne_eqb, cases_eq}
 use Rattle.eeprom.specs.declared.Eeprom.{Eeprom}
-use Rattle.eeprom.specs.Cells.{place, table, all_of, blank, staging, stages}
+use Rattle.eeprom.specs.Cells.{place, table, all_of, stages}
 
 module _ {A : Type 0} where
   pub length_table : (f : ℕ → A) (n : ℕ) → length (table n f) ≡ n
@@ -39,43 +39,41 @@ module _ {A : Type 0} where
   pub table_of : (d : A) (xs : List A) (n : ℕ) → length xs ≡ n → xs ≡ table n (place n d xs)
   table_of d xs n long = as_table (place n d xs) d xs n long (λ k h. rw (lt-ltb k n h))
 
-  -- one place changed by g
-  changed : (g : A → A) (d : A) (xs : List A) (n m k : ℕ) → n < m → length xs ≡ m → k < m → get_or (set xs n (g (get_or xs n d))) k d ≡ cond (eqb k n) (g (place m d xs k)) (place m d xs k)
-  changed g d xs n m k lt long h =
+  -- one place set
+  changed : (d v : A) (xs : List A) (n m k : ℕ) → n < m → length xs ≡ m → k < m → get_or (set xs n v) k d ≡ cond (eqb k n) v (place m d xs k)
+  changed d v xs n m k lt long h =
       ⊎_elim
-      (λ e. rw (eq-eqb k n e, e, lt-ltb n m lt) (get_or-set_same xs n (g (get_or xs n d)) d (omega arith)))
-      (λ e. rw (ne_eqb k n e, lt-ltb k m h) (get_or-set_other xs n k _ d e))
+      (λ e. rw (eq-eqb k n e, e) (get_or-set_same xs n v d (omega arith)))
+      (λ e. rw (ne_eqb k n e, lt-ltb k m h) (get_or-set_other xs n k v d e))
       (cases_eq k n)
 
-  pub set_table : (g : A → A) (d : A) (xs : List A) (n m : ℕ) → n < m → length xs ≡ m → set xs n (g (get_or xs n d)) ≡ table m (λ i. cond (eqb i n) (g (place m d xs i)) (place m d xs i))
-  set_table g d xs n m lt long =
-      as_table _ d _ m (simp length-set long) (λ k h. changed g d xs n m k lt long h)
+  set_table : (d v : A) (xs : List A) (n m : ℕ) → n < m → length xs ≡ m → set xs n v ≡ table m (λ i. cond (eqb i n) v (place m d xs i))
+  set_table d v xs n m lt long = as_table _ d _ m (simp length-set long) (λ k h. changed d v xs n m k lt long h)
 
-  -- no place n
-  unchanged : (g : A → A) (d : A) (xs : List A) (n m k : ℕ) → k < m → (n < m → ⊥) → get_or xs k d ≡ cond (eqb k n) (g (place m d xs k)) (place m d xs k)
-  unchanged g d xs n m k h out = rw (ne_eqb k n (λ e. out (omega arith)), lt-ltb k m h)
+  at_table : (b : Bool) (f : ℕ → A) (d : A) (n i : ℕ) → ltb i n ≡ b → (b ≡ false → f i ≡ d) → cond b (get_or (table n f) i d) d ≡ f i
+  at_table true f d n i e out = table_at f d n i (ltb-true i n e)
+  at_table false f d n i e out = sym (out refl)
 
-  pub same_table : (g : A → A) (d : A) (xs : List A) (n m : ℕ) → (n < m → ⊥) → length xs ≡ m → xs ≡ table m (λ i. cond (eqb i n) (g (place m d xs i)) (place m d xs i))
-  same_table g d xs n m out long = as_table _ d xs m long (λ k h. unchanged g d xs n m k h out)
-
-  pub place_in : (f : ℕ → A) (d : A) (n i : ℕ) → ltb i n ≡ true → place n d (table n f) i ≡ f i
-  place_in f d n i h = rw h (table_at f d n i (ltb-true i n h))
-
-  pub place_out : (d : A) (xs : List A) (n i : ℕ) → ltb i n ≡ false → place n d xs i ≡ d
-  place_out d xs n i h = rw h
+  -- a table whose function gives the default past the end
+  pub place_table : (f : ℕ → A) (d : A) (n i : ℕ) → (ltb i n ≡ false → f i ≡ d) → place n d (table n f) i ≡ f i
+  place_table f d n i out = at_table (ltb i n) f d n i refl out
 
   none_at : (t : Bool) (d : A) (n i : ℕ) → ltb i n ≡ t → place n d (all_of n d) i ≡ d
   unfolding all_of
   none_at true d n i h = rw h (get_or-replicate n i d d (ltb-true i n h))
-  none_at false d n i h = place_out d (all_of n d) n i h
+  none_at false d n i h = rw h
 
   -- the default everywhere
   pub place_none : (d : A) (n i : ℕ) → place n d (all_of n d) i ≡ d
   place_none d n i = none_at (ltb i n) d n i refl
 
 module _ {N : ℕ} (e : Eeprom N) (n b : ℕ) where
-  pub staged_cell : n < N → length e.cells ≡ N → record { cells = set e.cells n (staging b (get_or e.cells n blank)) } ≡ stages e n b
-  staged_cell h long = ap (λ xs. record { cells = xs }) (set_table (staging b) blank e.cells n N h long)
+  with_staged : List (Option ℕ) → Eeprom N
+  with_staged xs = record { bytes = e.bytes; staged = xs; under = e.under }
 
-  pub no_such_cell : N ≤ n → length e.cells ≡ N → e ≡ stages e n b
-  no_such_cell h long = ap (λ xs. record { cells = xs }) (same_table (staging b) blank e.cells n N (λ l. absurd (omega arith)) long)
+  pub staged_cell : n < N → length e.staged ≡ N → record { bytes = e.bytes; staged = set e.staged n (Some b); under = e.under } ≡ stages e n b
+  unfolding with_staged
+  staged_cell h long = ap with_staged (rw (lt-ltb n N h) (set_table None (Some b) e.staged n N h long))
+
+  pub no_such_cell : N ≤ n → e ≡ stages e n b
+  no_such_cell h = rw (le-ltb n N h) refl

@@ -1,19 +1,22 @@
 // The lasting cells of a chip, with the writes staged for them and the writes under way, for any number of cells.
 #![tactic(auto)]
 
-ghost use Rattle.std.specs.Prelude.{◌≡◌, if◌then◌else◌, Some, nat_lt};
-ghost use Rattle.eeprom.specs.Cells.{unstaged, begun, finished, cut_off, marks, cell_at, byte_at, staged_at, under_at, is_busy, all_fresh, stages, unstages, begins, stopped, finishes, cuts};
+ghost use Rattle.std.specs.Prelude.{◌≡◌, if◌then◌else◌, Some, cond, nat_lt};
+ghost use Rattle.std.specs.Option.{option_or, unwrap_or};
+ghost use Rattle.eeprom.specs.Cells.{byte_at, staged_at, under_at, is_busy, marks, all_fresh, stages, unstages, ends, begins, stopped, finishes, cuts};
 
-mod cell;
 pub mod pages;
 pub mod parts;
 
-use cell::Cell;
 use std::array;
 
+// Cell n has the lasting byte bytes[n]; staged[n] and under[n] are the value staged for it and the one under way to it.
+// These are three arrays, so that a START drops all that is staged at once and need not go over the cells.
 #[derive(Clone, Copy, PartialEq, Eq, Debug)]
 pub struct Eeprom<const N: usize> {
-    cells: [Cell; N],
+    bytes: [u8; N],
+    staged: [Option<u8>; N],
+    under: [Option<u8>; N],
 }
 
 impl<const N: usize> Eeprom<N> {
@@ -22,40 +25,35 @@ impl<const N: usize> Eeprom<N> {
         ensures { result ≡ all_fresh }
     {
         Eeprom {
-            cells: [Cell::default(); N],
+            bytes: [0; N],
+            staged: [None; N],
+            under: [None; N],
         }
-    }
-
-    // Cell n, or a blank one where there is no such cell.
-    fn cell(&self, n: usize) -> Cell
-        ensures { result ≡ cell_at self.now n }
-    {
-        self.cells.get(n).copied().unwrap_or_default()
     }
 
     pub fn byte(&self, n: usize) -> Option<u8>
         ensures { result ≡ (if nat_lt n N then Some (byte_at self.now n) else None) }
     {
-        self.cells.get(n).map(|cell| cell.byte)
+        self.bytes.get(n).copied()
     }
 
     pub fn staged(&self, n: usize) -> Option<u8>
         ensures { result ≡ staged_at self.now n }
     {
-        self.cell(n).staged
+        self.staged.get(n).copied().flatten()
     }
 
     pub fn under_way(&self, n: usize) -> Option<u8>
         ensures { result ≡ under_at self.now n }
     {
-        self.cell(n).under
+        self.under.get(n).copied().flatten()
     }
 
     // Whether some write is under way.
     pub fn busy(&self) -> bool
         ensures { result ≡ is_busy self.now }
     {
-        self.cells.iter().any(Cell::is_busy)
+        self.under.iter().any(|write| write.is_some())
     }
 
     // Stages a byte for a cell, in the place of an earlier one; where there is no such cell, nothing.
@@ -64,18 +62,23 @@ impl<const N: usize> Eeprom<N> {
         ensures { self.new ≡ stages self.old n byte }
     {
         if n < N {
-            self.cells[n].staged = Some(byte);
+            self.staged[n] = Some(byte);
         }
     }
 
+    #[tactic(auto, unfolding(crate::specs::Cells::all_of))]
     pub fn unstage(&mut self)
         ensures { self.new ≡ unstages self.old }
     {
-        self.cells = array::from_fn(
-            |n|
-                ensures { result ≡ unstaged (cell_at self.entry.now n) }
-            { self.cell(n).unstaged() },
-        );
+        self.staged.fill(None);
+    }
+
+    // No write is under way any more.
+    #[tactic(auto, unfolding(crate::specs::Cells::all_of))]
+    fn end(&mut self)
+        ensures { self.new ≡ ends self.old }
+    {
+        self.under.fill(None);
     }
 
     // At a STOP all that is staged comes under way, or is dropped.
@@ -93,35 +96,48 @@ impl<const N: usize> Eeprom<N> {
     pub fn begin(&mut self)
         ensures { self.new ≡ begins self.old }
     {
-        self.cells = array::from_fn(
+        self.under = array::from_fn(
             |n|
-                ensures { result ≡ begun (cell_at self.entry.now n) }
-            { self.cell(n).begun() },
+                ensures { result ≡ option_or (under_at self.entry.now n) (staged_at self.entry.now n) }
+            { self.under_way(n).or(self.staged(n)) },
         );
+        self.unstage();
+    }
+
+    // The byte of a cell once a write under way to it is stored, where it is to be.
+    fn settled(&self, n: usize, stores: bool) -> u8
+        ensures { result ≡ cond stores (unwrap_or (under_at self.now n) (byte_at self.now n)) (byte_at self.now n) }
+    {
+        let byte = self.byte(n).unwrap_or(0);
+        if stores {
+            self.under_way(n).unwrap_or(byte)
+        } else {
+            byte
+        }
     }
 
     // All that is under way is stored.
     pub fn finish(&mut self)
         ensures { self.new ≡ finishes self.old }
     {
-        self.cells = array::from_fn(
+        self.bytes = array::from_fn(
             |n|
-                ensures { result ≡ finished (cell_at self.entry.now n) }
-            { self.cell(n).finished() },
+                ensures { result ≡ unwrap_or (under_at self.entry.now n) (byte_at self.entry.now n) }
+            { self.settled(n, true) },
         );
+        self.end();
     }
 
     // A write under way to cell n is stored where bit n modulo 16 of the mask is 1; the others are lost.
     pub fn cut(&mut self, mask: u16)
         ensures { self.new ≡ cuts self.old mask }
     {
-        self.cells = array::from_fn(
+        self.bytes = array::from_fn(
             |n|
-                ensures { result ≡ cut_off (marks mask n) (cell_at self.entry.now n) }
-            {
-                let stores = (mask >> (n % 16)) % 2 == 1;
-                self.cell(n).cut_off(stores)
-            },
+                ensures { result ≡ cond (marks mask n) (unwrap_or (under_at self.entry.now n) (byte_at self.entry.now n)) (byte_at self.entry.now n) }
+            { self.settled(n, (mask >> (n % 16)) % 2 == 1) },
         );
+        self.end();
+        self.unstage();
     }
 }

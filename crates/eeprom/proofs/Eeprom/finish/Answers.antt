@@ -1,7 +1,10 @@
-use Rattle.std.proofs.Common.{ap, rules}
-use Rattle.eeprom.specs.Cells.{blank}
+use Rattle.std.proofs.Common.{None, ap, ◌∙◌, rules}
+use Rattle.eeprom.specs.Cells.{all_of}
 use Rattle.eeprom.proofs.Places.{made_table}
 use Rattle.eeprom.proofs.Eeprom.finish.Goals as goal
 
 pub returns : goal.returns
-returns g c = ap (λ xs. record { cells = xs }) (made_table _ _ _ blank _ _ c.from_fn-self.ensures.items (λ i y q k. search rules))
+returns g c =
+    c.end.ensures ∙ ap
+    (λ xs. record { bytes = xs; staged = c.args.self.now.staged; under = all_of g.row.N None })
+    (made_table _ _ _ 0 _ _ c.from_fn-self.ensures.items (λ i y q k. search rules))
