@@ -1,7 +1,8 @@
 // The lasting cells of a chip, with the writes staged for them and the writes under way, for any number of cells.
 #![tactic(auto)]
 
-ghost use Rattle.std.specs.Prelude.{◌≡◌, if◌then◌else◌, Some, cond, nat_lt};
+ghost use Rattle.std.specs.Prelude.{◌≡◌, if◌then◌else◌, Some, is_some, cond, nat_lt};
+ghost use Rattle.std.specs.List.{list_any};
 ghost use Rattle.std.specs.Option.{option_or, unwrap_or};
 ghost use Rattle.eeprom.specs.Cells.{byte_at, staged_at, under_at, is_busy, marks, all_fresh, stages, unstages, ends, begins, stopped, finishes, cuts};
 
@@ -17,6 +18,13 @@ pub struct Eeprom<const N: usize> {
     bytes: [u8; N],
     staged: [Option<u8>; N],
     under: [Option<u8>; N],
+}
+
+// Whether there is a write at some place.
+fn any_write(writes: &[Option<u8>]) -> bool
+    ensures { result ≡ list_any is_some writes.now }
+{
+    writes.iter().any(|write| write.is_some())
 }
 
 impl<const N: usize> Eeprom<N> {
@@ -50,10 +58,11 @@ impl<const N: usize> Eeprom<N> {
     }
 
     // Whether some write is under way.
+    #[tactic(auto, using(crate::proofs::Busy::all_writes))]
     pub fn busy(&self) -> bool
         ensures { result ≡ is_busy self.now }
     {
-        self.under.iter().any(|write| write.is_some())
+        any_write(&self.under)
     }
 
     // Stages a byte for a cell, in the place of an earlier one; where there is no such cell, nothing.
