@@ -50,13 +50,15 @@ module _ {S : Type 0} (ops : Ops S) (l : Levels) where
   all_sent n i xs b h f = sym f ∙ ap (λ m. run ops m b) (at_drop_all (send_all l n) xs i h)
 
   -- START, the write address and the bytes
-  pub sends : (a : ℕ) (xs : List ℕ) (b c d : Board S) (t : Told (List ℕ)) → run ops (open_with l 0 (write_byte a)) b ≡ (c, ok []) → run ops (send_all l 1 xs) c ≡ (d, t) → run ops (sending l a xs) b ≡ (d, t)
+  pub sends : (a : ℕ) (xs : List ℕ) (b c d : Board S) (r : Result (Unit {0}) Refusal) (t : Told (List ℕ)) → is_err r ≡ false → run ops (open_with l 0 (write_byte a)) b ≡ (c, told (λ _. []) r) → run ops (send_all l 1 xs) c ≡ (d, t) → run ops (sending l a xs) b ≡ (d, t)
   unfolding sending
-  sends a xs b c d t e f = onward ops (open_with l 0 (write_byte a)) (λ t. unless_refused t (send_all l 1 xs)) b c (ok []) e f
+  sends a xs b c d (Ok x) t h e f = onward ops (open_with l 0 (write_byte a)) (λ t. unless_refused t (send_all l 1 xs)) b c (ok []) e f
+  sends a xs b c d (Err y) t h e f = absurd (clash (sym h))
 
-  pub sends_refused : (a n p : ℕ) (xs : List ℕ) (b c : Board S) → run ops (open_with l 0 (write_byte a)) b ≡ (c, refused n p) → run ops (sending l a xs) b ≡ (c, refused n p)
+  pub sends_refused : (a : ℕ) (xs : List ℕ) (b c : Board S) (r : Result (Unit {0}) Refusal) → is_err r ≡ true → run ops (open_with l 0 (write_byte a)) b ≡ (c, told (λ _. []) r) → run ops (sending l a xs) b ≡ (c, told (λ _. []) r)
   unfolding sending
-  sends_refused a n p xs b c e = onward ops (open_with l 0 (write_byte a)) (λ t. unless_refused t (send_all l 1 xs)) b c (refused n p) e refl
+  sends_refused a xs b c (Ok x) h e = absurd (clash h)
+  sends_refused a xs b c (Err y) h e = onward ops (open_with l 0 (write_byte a)) (λ t. unless_refused t (send_all l 1 xs)) b c (refused (number y) (place y)) e refl
 
   -- STOP, and the answer
   pub closes : (t : Told (List ℕ)) (b c : Board S) → (run ops (stop l) b).0 ≡ c → run ops (close l t) b ≡ (c, t)

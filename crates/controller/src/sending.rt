@@ -45,10 +45,10 @@ pub(super) fn open_write<P: Part>(
     ensures count { Sent (1 + length bytes.now) result.0.sent result.1 }
 {
     let (writing, result) = Quiet::new().write(board, levels, address);
-    match result {
-        Ok(()) => send_all(writing, board, levels, bytes),
-        Err(refusal) => (writing, Err(refusal)),
+    if result.is_err() {
+        return (writing, result);
     }
+    send_all(writing, board, levels, bytes)
 }
 
 // A whole write transfer at the levels given.
