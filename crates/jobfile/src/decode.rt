@@ -4,7 +4,6 @@ ghost use Rattle.refusals.specs.Told.{told};
 ghost use Rattle.jobfile.specs.Jobs.{write_at, read_at, wait_at, finish_at, samples_at, job_as, said};
 ghost use Rattle.jobfile.specs.Kinds.{kind_byte};
 ghost use Rattle.jobfile.specs.Reading.{ReadOn};
-ghost use Rattle.jobfile.specs.Said.{shown_write, shown_read, shown_wait, shown_finish, shown_samples};
 
 use crate::fields::Fields;
 use crate::finish::Finish;
@@ -16,50 +15,48 @@ use crate::wait::Wait;
 use crate::write::Write;
 use refusals::Refusal;
 
-fn write_job<'a>(fields: &mut Fields<'a>) -> Result<Write<'a>, Refusal>
-    ensures value { told (λ job. (shown_write job, fields.new.at)) result ≡ write_at fields.old.file.now fields.old.at }
+fn write_job<'a>(fields: &mut Fields<'a>) -> Result<Job<'a>, Refusal>
+    ensures value { told (λ job. (said job, fields.new.at)) result ≡ write_at fields.old.file.now fields.old.at }
     ensures onward { ReadOn fields.old fields.new }
 {
     let address = fields.number_within(0, 127)?;
     let (bytes, at) = fields.counted(255)?;
-    Write::new(address as u8, bytes, at)
+    Ok(Job::Write(Write::new(address as u8, bytes, at)?))
 }
 
-fn read_job<'a>(fields: &mut Fields<'a>) -> Result<Read<'a>, Refusal>
-    ensures value { told (λ job. (shown_read job, fields.new.at)) result ≡ read_at fields.old.file.now fields.old.at }
+fn read_job<'a>(fields: &mut Fields<'a>) -> Result<Job<'a>, Refusal>
+    ensures value { told (λ job. (said job, fields.new.at)) result ≡ read_at fields.old.file.now fields.old.at }
     ensures onward { ReadOn fields.old fields.new }
 {
     let address = fields.number_within(0, 127)?;
     let (aim, at) = fields.counted(2)?;
     let count = fields.number_within(1, 255)?;
-    Read::new(address as u8, aim, at, count as u8)
+    Ok(Job::Read(Read::new(address as u8, aim, at, count as u8)?))
 }
 
-fn wait_job(fields: &mut Fields<'_>) -> Result<Wait, Refusal>
-    ensures value { told (λ job. (shown_wait job, fields.new.at)) result ≡ wait_at fields.old.file.now fields.old.at }
+fn wait_job<'a>(fields: &mut Fields<'a>) -> Result<Job<'a>, Refusal>
+    ensures value { told (λ job. (said job, fields.new.at)) result ≡ wait_at fields.old.file.now fields.old.at }
     ensures onward { ReadOn fields.old fields.new }
 {
     let address = fields.number_within(0, 127)?;
     let polls = fields.number_within(1, 1000)?;
-    Wait::new(address as u8, polls as u16)
+    Ok(Job::Wait(Wait::new(address as u8, polls as u16)?))
 }
 
-fn finish_job(fields: &mut Fields<'_>) -> Result<Finish, Refusal>
-    ensures value { told (λ job. (shown_finish job, fields.new.at)) result ≡ finish_at fields.old.file.now fields.old.at }
+fn finish_job<'a>(fields: &mut Fields<'a>) -> Result<Job<'a>, Refusal>
+    ensures value { told (λ job. (said job, fields.new.at)) result ≡ finish_at fields.old.file.now fields.old.at }
     ensures onward { ReadOn fields.old fields.new }
 {
-    let part = fields.number()?;
-    Ok(Finish {
-        part: part as usize,
-    })
+    let part = fields.number()? as usize;
+    Ok(Job::Finish(Finish { part }))
 }
 
-fn samples_job<'a>(fields: &mut Fields<'a>) -> Result<Samples<'a>, Refusal>
-    ensures value { told (λ job. (shown_samples job, fields.new.at)) result ≡ samples_at fields.old.file.now fields.old.at }
+fn samples_job<'a>(fields: &mut Fields<'a>) -> Result<Job<'a>, Refusal>
+    ensures value { told (λ job. (said job, fields.new.at)) result ≡ samples_at fields.old.file.now fields.old.at }
     ensures onward { ReadOn fields.old fields.new }
 {
     let (bytes, at) = fields.counted(255)?;
-    Samples::new(bytes, at)
+    Ok(Job::Samples(Samples::new(bytes, at)?))
 }
 
 // The job of a kind whose fields come next.
@@ -68,10 +65,10 @@ pub(crate) fn job_of<'a>(kind: Kind, fields: &mut Fields<'a>) -> Result<Job<'a>,
     ensures onward { ReadOn fields.old fields.new }
 {
     match kind {
-        Kind::Write => Ok(Job::Write(write_job(fields)?)),
-        Kind::Read => Ok(Job::Read(read_job(fields)?)),
-        Kind::Wait => Ok(Job::Wait(wait_job(fields)?)),
-        Kind::Finish => Ok(Job::Finish(finish_job(fields)?)),
-        Kind::Samples => Ok(Job::Samples(samples_job(fields)?)),
+        Kind::Write => write_job(fields),
+        Kind::Read => read_job(fields),
+        Kind::Wait => wait_job(fields),
+        Kind::Finish => finish_job(fields),
+        Kind::Samples => samples_job(fields),
     }
 }

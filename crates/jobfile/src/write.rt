@@ -4,6 +4,7 @@ ghost use Rattle.refusals.specs.Told.{told};
 
 use refusals::Refusal;
 
+// Like those of the other jobs, its limits are in its type, so that nothing that is handed a job tests them again.
 #[derive(Clone, Copy)]
 pub struct Write<'a> {
     address: u8,
