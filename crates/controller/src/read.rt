@@ -49,7 +49,7 @@ pub fn read<P: Part>(
     ensures count { Lasts job.now.count (run P.Part.ops (master_of lines.now (room_of row.old) (shown_read job.now)) board.old).1 }
     ensures lender { row.new.items.ghost_name ≡ row.old.items.ghost_name }
 {
-    if row.room() < job.count() as usize {
+    if row.room() < usize::from(job.count()) {
         return Err(Refusal::NoRoom);
     }
     let reading = open_read(board, lines, job.address(), job.aim())?;

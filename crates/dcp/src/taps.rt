@@ -42,7 +42,7 @@ pub fn look(table: &[u8; 100], byte: u8) -> Entry
     let tap = place(table, byte);
     Entry {
         tap,
-        byte: table[tap as usize],
+        byte: table[usize::from(tap)],
     }
 }
 

@@ -135,7 +135,7 @@ impl Part for Ds1846 {
             && !self.eeprom.busy()
             && !levels.wp;
         if ack {
-            self.eeprom.stage(self.counter as usize, byte);
+            self.eeprom.stage(usize::from(self.counter), byte);
             self.counter = next_in_page::<8>(self.counter);
         } else {
             self.leave();
@@ -147,7 +147,7 @@ impl Part for Ds1846 {
         if self.mode != Mode::Reading || address != READ {
             return 0xff;
         }
-        let byte = self.byte(self.counter as usize);
+        let byte = self.byte(usize::from(self.counter));
         self.counter = self.counter.wrapping_add(1);
         byte
     }

@@ -15,12 +15,12 @@ pub(crate) fn number(rest: &[u8]) -> Result<(u32, usize), Refusal>
     let mut value = 0u32;
     for (i, group) in rest.iter().enumerate() {
         if *group < 128 {
-            return Ok((value * 128 + *group as u32, i + 1));
+            return Ok((value * 128 + u32::from(*group), i + 1));
         }
         if i == 2 {
             return Err(Refusal::OutOfLimit);
         }
-        value = value * 128 + (*group - 128) as u32;
+        value = value * 128 + u32::from(*group - 128);
     }
     Err(Refusal::FileEnds)
 }

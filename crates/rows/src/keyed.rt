@@ -13,6 +13,6 @@ impl Keyed for u8 {
     ghost keyof = { λ value. value };
 
     fn key(&self) -> usize {
-        *self as usize
+        usize::from(*self)
     }
 }

@@ -18,7 +18,7 @@ pub fn answers(job: &Job<'_>) -> usize
     ensures { result ≡ answers (said job.now) }
 {
     match job {
-        Job::Read(read) => read.count() as usize,
+        Job::Read(read) => usize::from(read.count()),
         Job::Samples(samples) => samples.bytes().len(),
         _ => 0,
     }

@@ -28,9 +28,9 @@ impl X9520 {
         if !self.latches.wel() || wp_forbids(store, wp, register) || locks_wipers(register) {
             return self.refuse();
         }
-        move_one(&mut self.dcps, self.named as usize, byte);
+        move_one(&mut self.dcps, usize::from(self.named), byte);
         if store {
-            self.eeprom.stage(256 + self.named as usize, byte);
+            self.eeprom.stage(256 + usize::from(self.named), byte);
         }
         self.mode = Mode::Moved;
         true
@@ -40,7 +40,7 @@ impl X9520 {
     pub(super) fn wiper_register(&self) -> u8
         ensures { result ≡ wiper_register self.now.dcps self.now.named }
     {
-        let named = self.dcps.get(self.named as usize);
+        let named = self.dcps.get(usize::from(self.named));
         named.map_or(0, |dcp| dcp.register())
     }
 

@@ -25,7 +25,7 @@ impl X9520 {
             self.latches.disarm();
             return self.refuse();
         }
-        self.eeprom.stage(self.counter as usize, byte);
+        self.eeprom.stage(usize::from(self.counter), byte);
         self.counter = next_in_page::<16>(self.counter);
         self.mode = Mode::MemoryBytes;
         true
@@ -35,7 +35,7 @@ impl X9520 {
         ensures answer { result ≡ given (Some Memory) self.old }
         ensures after { self.new ≡ gave (Some Memory) self.old }
     {
-        let byte = self.eeprom.byte(self.counter as usize).unwrap_or(0);
+        let byte = self.eeprom.byte(usize::from(self.counter)).unwrap_or(0);
         self.counter = self.counter.wrapping_add(1);
         byte
     }

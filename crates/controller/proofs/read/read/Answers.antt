@@ -9,7 +9,7 @@ use Rattle.controller.proofs.read.read.Goals as goal
 
 pub returns-in_err-reading : goal.returns-in_err-reading
 returns-in_err-reading g c =
-    let room : c.args.job.now.count ≤ room_of c.args.row.now = omega (arith, c.if-room-count.false, c.room.ensures, c.count.ensures.value) in
+    let room : c.args.job.now.count ≤ room_of c.args.row.now = omega (arith, c.if-room-from.false, c.from.ensures, c.room.ensures, c.count.ensures.value) in
     let opened = same_address g.P.Part.ops c.args.lines.now _ c.args.job.now.address _ c.args.job.now.aim.now c.args.board.now c.address.ensures.value c.aim.ensures.value c.in_err-reading.ensures in
     let ran = roomy_run g.P.Part.ops c.args.job.now.count (room_of c.args.row.now) _ _ room (reads_refused g.P.Part.ops c.args.lines.now c.args.job.now.address c.args.job.now.count _ _ c.args.job.now.aim.now c.args.board.now _ opened) in
     let exit = err_from_is_err_and c.from_residual.result c.from_residual.ensures.1 in
@@ -17,7 +17,7 @@ returns-in_err-reading g c =
 
 pub returns : goal.returns
 returns g c =
-    let room : c.args.job.now.count ≤ room_of c.args.row.now = omega (arith, c.if-room-count.false, c.room.ensures, c.count.ensures.value) in
+    let room : c.args.job.now.count ≤ room_of c.args.row.now = omega (arith, c.if-room-from.false, c.from.ensures, c.room.ensures, c.count.ensures.value) in
     let opened = same_address g.P.Part.ops c.args.lines.now _ c.args.job.now.address _ c.args.job.now.aim.now c.args.board.now c.address.ensures.value c.aim.ensures.value c.in_ok-reading.ensures in
     let got : List ℕ = c.receive_all-reading.ensures.run.0 in
     let count = ap (λ n. run g.P.Part.ops (receive_all c.args.lines.now n []) c.open_read.new.board) (sym c.count-2.ensures.value) in
