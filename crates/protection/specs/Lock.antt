@@ -1,8 +1,17 @@
 -- What a register byte locks, by its bits 4 and 3, and what WP forbids.
 use Rattle.std.specs.Prelude.{Bool, true, false, cond, not, ◌&&◌, ◌||◌, ℕ, ◌/◌, ◌%◌, ◌==◌, nat_le}
+use Rattle.protection.specs.declared.lock.Lock.{Lock}
+use Rattle.protection.specs.declared.lock.Lock.TheVariants.{Nothing, LastQuarter, LastHalf, All}
 
 abbrev pub lock_bits : ℕ → ℕ
 lock_bits r = r / 8 % 4
+
+-- the kinds of locks by these bits
+abbrev pub lock_of : ℕ → Lock
+lock_of r =
+    cond (lock_bits r == 0) Nothing (
+    cond (lock_bits r == 1) LastQuarter (
+    cond (lock_bits r == 2) LastHalf All))
 
 -- of the 256 memory cells none, the last quarter, the last half, or all
 abbrev pub locks_memory : ℕ → ℕ → Bool

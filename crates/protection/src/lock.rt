@@ -1,21 +1,35 @@
 // What a register byte locks.
 ghost use Rattle.std.specs.Prelude.{◌≡◌};
-ghost use Rattle.protection.specs.Lock.{lock_bits, locks_memory, locks_wipers, wp_forbids};
+ghost use Rattle.protection.specs.Lock.{lock_of, locks_memory, locks_wipers, wp_forbids};
 
-fn lock_bits(register: u8) -> u8
-    ensures { result ≡ lock_bits register }
+// By bits 4 and 3: of the 256 memory cells none, the last quarter, the last half, or all.
+#[derive(Clone, Copy, PartialEq, Eq, Debug)]
+pub(crate) enum Lock {
+    Nothing,
+    LastQuarter,
+    LastHalf,
+    All,
+}
+
+fn lock_of(register: u8) -> Lock
+    ensures { result ≡ lock_of register }
 {
-    register / 8 % 4
+    match register / 8 % 4 {
+        0 => Lock::Nothing,
+        1 => Lock::LastQuarter,
+        2 => Lock::LastHalf,
+        _ => Lock::All,
+    }
 }
 
 pub fn locks_memory(register: u8, cell: u8) -> bool
     ensures { result ≡ locks_memory register cell }
 {
-    match lock_bits(register) {
-        0 => false,
-        1 => cell >= 0xc0,
-        2 => cell >= 0x80,
-        _ => true,
+    match lock_of(register) {
+        Lock::Nothing => false,
+        Lock::LastQuarter => cell >= 0xc0,
+        Lock::LastHalf => cell >= 0x80,
+        Lock::All => true,
     }
 }
 
@@ -23,7 +37,7 @@ pub fn locks_memory(register: u8, cell: u8) -> bool
 pub fn locks_wipers(register: u8) -> bool
     ensures { result ≡ locks_wipers register }
 {
-    lock_bits(register) != 0
+    lock_of(register) != Lock::Nothing
 }
 
 // WP HIGH forbids stored writes, and every write while something is locked.
