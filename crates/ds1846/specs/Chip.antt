@@ -94,7 +94,8 @@ tap_at e j =
     cond (j == 0) (tap_of (byte_at e 249 % 128))
     (cond (j == 1) (byte_at e 248) (cond (j == 2) (tap_of (byte_at e 250 % 128)) 0))
 
--- a clean STOP with WP LOW begins the writes staged; any other drops them
+-- The chip as the one numbered part: what is asked of its cells, and a finish, are said there for every such chip.
+-- A clean STOP with WP LOW begins the writes staged; any other drops them.
 abbrev pub as_part : OnePart Ds1846 256
 as_part = record {
   has = λ n. (n == 81);

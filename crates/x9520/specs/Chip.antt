@@ -97,6 +97,7 @@ stopped_chip s clean l =
 abbrev pub tap_at : List Dcp → ℕ → ℕ
 tap_at d j = cond (nat_lt j 3) (tap_of (slice_index_or d j no_dcp)) 0
 
+-- the chip as the one numbered part: what is asked of its cells, and a finish, are said there for every such chip
 abbrev pub as_part : OnePart X9520 260
 as_part = record {
   has = known;
