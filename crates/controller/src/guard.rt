@@ -1,4 +1,5 @@
-// WP stands LOW while a guard lives, and as it stood before once the guard is let go.
+// WP stands LOW while a guard lives, and as it stood before once the guard is let go. So what writes is lent the record of the
+// line levels to change it, and promises that it stands as before (`lines`).
 ghost use Rattle.std.specs.Prelude.{◌≡◌};
 ghost use Rattle.controller.specs.Jobs.{lowered};
 

@@ -3,6 +3,7 @@
 ghost use Rattle.std.specs.Prelude.{◌≡◌, true};
 ghost use Rattle.controller.specs.Notes.{noted, after_ready};
 
+// The flag stands beside the address for the prover: only a note that is spent may be dropped.
 pub struct Busy {
     address: u8,
     spent: bool,

@@ -25,8 +25,11 @@ pub fn wait<P: Part>(
     ensures lines { lines.new ≡ lines.old }
     ensures note { result.0 ≡ after_wait job.now.address (told (λ _. []) result.1) note }
 {
-    match poll(board, lines, job.address(), job.polls()) {
-        Ok(()) => (spend(note, job.address()), Ok(())),
-        Err(refusal) => (note, Err(refusal)),
-    }
+    let answer = poll(board, lines, job.address(), job.polls());
+    let left = if answer.is_ok() {
+        spend(note, job.address())
+    } else {
+        note
+    };
+    (left, answer)
 }

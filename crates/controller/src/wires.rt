@@ -1,4 +1,5 @@
-// START, bits, bytes and STOP, sample by sample.
+// START, bits, bytes and STOP, sample by sample. Board and levels are two parameters in all of this crate: in one struct each
+// function would have to promise besides that the struct holds the same board still, and the same levels.
 ghost use Rattle.std.specs.Prelude.{◌≡◌};
 ghost use Rattle.controller.specs.Master.{run};
 ghost use Rattle.controller.specs.Bytes.{put, start, stop, send_bit, read_bit, send_bits, read_bits, send, receive};

@@ -78,6 +78,7 @@ impl Part for Ds1846 {
         part == 0 && self.eeprom.busy()
     }
 
+    // A wiper is a number of the question, and each has its cell.
     fn tap(&self, part: usize, n: usize) -> Option<u16> {
         match (part, n) {
             (0, 0) => Some(tap_of(self.byte(0xf9) % 128)),

@@ -31,6 +31,7 @@ pub enum Refusal {
 }
 
 impl Refusal {
+    // A method and no `From`: a refusal tells two numbers, and the call has to name which.
     pub fn number(&self) -> u8
         ensures { result ≡ number self.now }
     {

@@ -1,4 +1,5 @@
-// A caller's list with a count: the first `count` items are the row.
+// A caller's list with a count: the first `count` items are the row. The list is lent, since rows allocate nothing,
+// so the count stands beside it.
 ghost use Rattle.std.specs.Prelude.{◌≤◌, length};
 
 mod ask;

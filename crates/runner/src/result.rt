@@ -4,7 +4,8 @@ ghost use Rattle.std.specs.Prelude.{◌≡◌};
 use refusals::Refusal;
 use rows::keyed::Keyed;
 
-// The answered bytes stand in the byte list, `count` of them from `from` on.
+// The answered bytes stand in the byte list, `count` of them from `from` on: two numbers and no slice, since the list is lent
+// and still grows.
 #[derive(Clone, Copy, PartialEq, Eq, Debug)]
 pub struct Done {
     pub from: usize,

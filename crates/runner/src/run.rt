@@ -28,7 +28,8 @@ use part::levels::Levels;
 use refusals::Refusal;
 use rows::row::Row;
 
-// The note of an accepted write takes the place of an earlier one, which is given up.
+// The note of an accepted write takes the place of an earlier one, which is given up. A note is never dropped, so each arm
+// says where it goes.
 fn run_write<P: Part>(
     board: &mut Board<P>,
     lines: &mut Levels,
@@ -86,6 +87,7 @@ fn outcome(answer: Result<(), Refusal>, from: usize, to: usize) -> Result<Done, 
 }
 
 // Runs a job of a file, which comes with its offset, and appends its result. A job that cannot be decoded is not run.
+// Board, lines and rows are parameters of their own: a struct of four `&mut` would need a clause for each that it is the same.
 fn run_next<P: Part>(
     board: &mut Board<P>,
     lines: &mut Levels,

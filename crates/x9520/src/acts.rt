@@ -28,6 +28,7 @@ fn device_at(address: u8) -> Option<Device>
     }
 }
 
+// The address byte for writing, as it is on the wire.
 fn write_byte(device: Device) -> u8
     ensures { result ≡ write_byte device }
 {

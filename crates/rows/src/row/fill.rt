@@ -1,4 +1,5 @@
-// A row is made empty, and grows by one item at a time.
+// A row is made empty, and grows by one item at a time. The clauses `lender` here and above say that a row keeps the list
+// that it was made of: the language asks this of each function that takes a struct with a `&mut` in it.
 ghost use Rattle.std.specs.Prelude.{◌≡◌, ◌+◌, if◌then◌else◌, slice_set};
 ghost use Rattle.refusals.specs.Told.{told};
 ghost use Rattle.rows.specs.Rows.{roomy, appends, items_of};
