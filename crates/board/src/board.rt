@@ -125,7 +125,7 @@ impl<P: Part> Board<P> {
         match self.bus.phase {
             Phase::Closed | Phase::Deaf => {}
             Phase::Taking { kind, bits, byte } => {
-                let byte = byte % 128 * 2 + bit as u8;
+                let byte = byte % 128 * 2 + u8::from(bit);
                 if bits < 7 {
                     let bits = bits + 1;
                     self.bus.phase = Phase::Taking { kind, bits, byte };

@@ -2,7 +2,6 @@
 use Rattle.std.proofs.Common.{◌≡◌, ℕ, suc, ◌+◌, ◌-◌, ◌*◌, ◌/◌, ◌%◌, ◌^◌, ◌<◌, ◌≤◌, Bool, true, false, not, Ok, Err, Result, sym, refl, ap, ◌∙◌, pow-suc, add-one, arith, pow_mono}
 use mir.Val.{bool_byte}
 use Rattle.std.proofs.lemmas.Bool.{lt-ltb, eq-eqb, ne_eqb}
-use Rattle.std.specs.Result.{result_unwrap_or}
 use Rattle.refusals.specs.declared.Refusal.{Refusal}
 use Rattle.refusals.specs.Told.{Told, ok, refused, told, number, place}
 use Rattle.part.specs.Ops.{Ops}
@@ -53,7 +52,7 @@ apart a m n e =
     let f : ⊥ = omega arith in
     absurd f
 
-its_level : (r : Result Bool Refusal) (level : Bool) → told (λ level. level) r ≡ ok level → level ≡ result_unwrap_or r false
+its_level : (r : Result Bool Refusal) (level : Bool) → told (λ level. level) r ≡ ok level → r ≡ Ok level
 its_level (Ok x) level e = cc
 its_level (Err refusal) level e = apart level (number refusal) (place refusal) (sym e)
 
@@ -67,15 +66,19 @@ module _ {S : Type 0} (ops : Ops S) where
       let h : sampled ops b (sample_of l scl sda) ≡ after = rw (lt-ltb _ 32 (sample_small l scl sda)) (same ∙ sym e) in
       λ i. (h i, (ap (λ c. c.bus.sda) h ∙ sym f) i)
 
-  -- the board after a sample that is not refused, and the answer
-  pub answered : (b after : Board S) (x : ℕ) (r : Result Bool Refusal) → x < 32 → after ≡ sampled ops b x → told (λ level. level) r ≡ sample_told ops b x → ◌≡◌ {A = Board S × Bool} (given ops b x, reads ops b x) (after, result_unwrap_or r false)
+  -- a sample that is not refused is answered
+  pub taken_sample : (b : Board S) (x : ℕ) (r : Result Bool Refusal) → x < 32 → told (λ level. level) r ≡ sample_told ops b x → r ≡ Ok (moved ops b x).bus.sda
+  taken_sample b x r h f = its_level r _ (rw (lt-ltb x 32 h) at f)
+
+  -- the board after it, and the answer
+  pub answered : (b after : Board S) (x : ℕ) (r : Result Bool Refusal) (level : Bool) → x < 32 → after ≡ sampled ops b x → told (λ level. level) r ≡ sample_told ops b x → r ≡ Ok level → ◌≡◌ {A = Board S × Bool} (given ops b x, reads ops b x) (after, level)
   unfolding given reads
-  answered b after x r h e f =
-      let t = lt-ltb x 32 h in
-      let g : told (λ level. level) r ≡ ok (moved ops b x).bus.sda = rw t at f in
-      let s : sampled ops b x ≡ moved ops b x = rw t refl in
-      let k : (sampled ops b x).bus.sda ≡ result_unwrap_or r false = ap (λ c. c.bus.sda) s ∙ its_level r _ g in
-      λ i. (sym e i, k i)
+  answered b after x r level h e f k =
+      let s : sampled ops b x ≡ moved ops b x = rw (lt-ltb x 32 h) refl in
+      let same : Ok (moved ops b x).bus.sda ≡ Ok level = sym (taken_sample b x r h f) ∙ k in
+      let l : (moved ops b x).bus.sda ≡ level = cc in
+      let m : (sampled ops b x).bus.sda ≡ level = ap (λ c. c.bus.sda) s ∙ l in
+      λ i. (sym e i, m i)
 
   -- one master after another
   pub after : {A B : Type 0} (m : Master A) (f : A → Master B) (b : Board S) → run ops (m then f) b ≡ run ops (f (run ops m b).1) (run ops m b).0

@@ -11,7 +11,7 @@ use part::Part;
 use part::levels::Levels;
 use refusals::Refusal;
 
-// A transfer whose read address got no ACK is ended with a STOP.
+// A transfer whose read address got no ACK is ended with a STOP. An open transfer must be ended, so no `?` stands here.
 fn stop_refused<P: Part>(
     reading: Reading,
     outcome: Result<(), Refusal>,

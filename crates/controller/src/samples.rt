@@ -24,7 +24,7 @@ fn give<P: Part>(board: &mut Board<P>, sample: u8) -> bool
     requires { sample < 32 }
     ensures { run P.Part.ops (gives sample ended) board.old ≡ (board.new, result) }
 {
-    board.sample(sample).unwrap_or(false)
+    board.sample(sample).unwrap()
 }
 
 // Gives the samples and appends the levels read.
@@ -35,7 +35,7 @@ fn give_all<P: Part>(board: &mut Board<P>, samples: &[u8], row: &mut Row<'_, u8>
 {
     for sample in samples {
         let level = give(board, *sample);
-        let _ = row.append(level as u8);
+        let _ = row.append(u8::from(level));
     }
 }
 
@@ -61,8 +61,9 @@ pub fn samples<P: Part>(
 }
 
 // The place in a row of levels of the first that is HIGH, or LOW.
+#[tactic(auto, using(crate::proofs::Runs::byte_bit))]
 pub fn first_level(row: &Row<'_, u8>, high: bool) -> Option<usize>
     ensures { result ≡ first_with (λ level. level) (bit_value high) (row_of row.now) }
 {
-    row.find(high as usize)
+    row.find(usize::from(high))
 }

@@ -71,7 +71,7 @@ pub(super) fn receive<P: Part>(board: &mut Board<P>, levels: &Levels, more: bool
 {
     let mut byte = 0u8;
     for _n in 0..8u8 {
-        byte = byte % 128 * 2 + read_bit(board, levels) as u8;
+        byte = byte % 128 * 2 + u8::from(read_bit(board, levels));
     }
     send_bit(board, levels, !more);
     byte

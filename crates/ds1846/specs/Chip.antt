@@ -1,12 +1,12 @@
 -- The DS1846 with A0 HIGH, as functions over its state. Assumes nothing.
 -- k is a numbered part's number, of which there is only 0; i is a cell's number, j a wiper's;
 -- a is the transfer's address byte, x a byte, l the levels.
-use Rattle.std.specs.Prelude.{ℕ, ◌+◌, ◌/◌, ◌%◌, Bool, true, false, cond, not, ◌&&◌, Some, None, Option, ◌==◌, nat_lt}
+use Rattle.std.specs.Prelude.{ℕ, ◌+◌, ◌%◌, Bool, true, false, cond, not, ◌&&◌, Some, None, Option, ◌==◌, nat_lt}
 use Rattle.part.specs.declared.levels.Levels.{Levels}
 use Rattle.part.specs.Ops.{Ops}
 use Rattle.eeprom.specs.declared.Eeprom.{Eeprom}
 use Rattle.eeprom.specs.Cells.{byte_at, is_busy, all_fresh, stages, unstages, stopped, cuts}
-use Rattle.eeprom.specs.OnePart.{OnePart, part_of}
+use Rattle.eeprom.specs.OnePart.{OnePart, part_of, hears_at}
 use Rattle.eeprom.specs.Pages.{next_in_page}
 use Rattle.ds1846.specs.declared.state.Ds1846.{Ds1846}
 use Rattle.ds1846.specs.declared.state.Mode.{Mode}
@@ -28,7 +28,7 @@ heard_in Reading = Some 163
 
 -- it hears its address while no write is under way
 abbrev pub hears : Ds1846 → ℕ → Bool
-hears s x = x / 2 == 81 && not (is_busy s.eeprom)
+hears s = hears_at (λ n. (n == 81)) s.eeprom
 
 abbrev pub mode_after : Bool → ℕ → Mode
 mode_after true x = cond (x % 2 == 1) Reading Aiming

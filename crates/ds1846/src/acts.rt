@@ -46,6 +46,7 @@ impl Part for Ds1846 {
 
     ghost keeps = { keeps_ds1846 };
 
+    // What every such chip answers alike is a line each, here and in its like: the methods of a trait stand in its impls.
     fn past(&self, part: usize) -> Option<usize> {
         part.checked_sub(1)
     }
@@ -78,7 +79,7 @@ impl Part for Ds1846 {
         part == 0 && self.eeprom.busy()
     }
 
-    // A wiper is a number of the question, and each has its cell.
+    // Each wiper follows a cell of its own.
     fn tap(&self, part: usize, n: usize) -> Option<u16> {
         match (part, n) {
             (0, 0) => Some(tap_of(self.byte(0xf9) % 128)),

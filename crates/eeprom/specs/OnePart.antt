@@ -11,6 +11,10 @@ use Rattle.eeprom.specs.Cells.{byte_at, staged_at, under_at, is_busy, finishes}
 abbrev pub of_part : {A : Type 0} → ℕ → A → A → A
 of_part k mine other = cond (k == 0) mine other
 
+-- an address byte is heard that has one of the chip's addresses, while no write is under way
+abbrev pub hears_at : {N : ℕ} → (ℕ → Bool) → Eeprom N → ℕ → Bool
+hears_at has e x = has (x / 2) && not (is_busy e)
+
 pub record OnePart (S : Type 0) (N : ℕ) : Type 0 where
   -- its addresses, and how many wipers it has
   pub has : ℕ → Bool
@@ -35,10 +39,6 @@ pub record OnePart (S : Type 0) (N : ℕ) : Type 0 where
   pub cut : S → PowerCut → S
 
 module _ {S : Type 0} {N : ℕ} (c : OnePart S N) where
-  -- an address byte is heard that has one of its addresses, while no write is under way
-  abbrev pub hears : S → ℕ → Bool
-  hears s x = c.has (x / 2) && not (is_busy (c.eeprom s))
-
   abbrev pub part_of : Ops S
   part_of = record {
     count = λ s. 1;
@@ -53,7 +53,7 @@ module _ {S : Type 0} {N : ℕ} (c : OnePart S N) where
     busy = λ s k. of_part k (is_busy (c.eeprom s)) false;
     tap = λ s k j. of_part k (c.tap s j) 0;
     heard = c.heard;
-    hears = hears;
+    hears = λ s. hears_at c.has (c.eeprom s);
     renew = λ s. c.fresh;
     start = c.start;
     address = c.address;

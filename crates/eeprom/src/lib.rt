@@ -12,7 +12,7 @@ pub mod parts;
 use std::array;
 
 // Cell n has the lasting byte bytes[n]; staged[n] and under[n] are the value staged for it and the one under way to it.
-// These are three arrays, so that a START drops all that is staged at once and need not go over the cells.
+// These are three arrays and not one of cells with three fields, for speed: a START drops all that is staged, which is one fill.
 #[derive(Clone, Copy, PartialEq, Eq, Debug)]
 pub struct Eeprom<const N: usize> {
     bytes: [u8; N],
@@ -65,7 +65,8 @@ impl<const N: usize> Eeprom<N> {
         any_write(&self.under)
     }
 
-    // Stages a byte for a cell, in the place of an earlier one; where there is no such cell, nothing.
+    // Stages a byte for a cell, in the place of an earlier one; where there is no such cell, nothing. It is written by index, since
+    // after a `get_mut` the check knows nothing of the array but its length.
     #[tactic(auto, using(crate::proofs::Places::staged_cell, crate::proofs::Places::no_such_cell))]
     pub fn stage(&mut self, n: usize, byte: u8)
         ensures { self.new ≡ stages self.old n byte }

@@ -28,10 +28,8 @@ pub fn next_job(file: &[u8], at: usize) -> Result<(Job<'_>, usize), Refusal>
     ensures value { told said_next result ≡ job_at file.now at }
     ensures onward { Onward at (length file.now) result }
 {
-    if at >= file.len() {
-        return Err(Refusal::FileEnds);
-    }
-    let kind = Kind::try_from(file[at])?;
+    let byte = *file.get(at).ok_or(Refusal::FileEnds)?;
+    let kind = Kind::try_from(byte)?;
     let mut fields = Fields { file, at: at + 1 };
     let job = job_of(kind, &mut fields)?;
     Ok((job, fields.at))

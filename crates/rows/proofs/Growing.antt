@@ -1,10 +1,9 @@
 -- A row that grows: nothing yet, then one append after another, or one growth after another.
-use Rattle.std.proofs.Common.{◌≡◌, ◌+◌, ◌<◌, Bool, true, false, cond, List, [], ◌∷◌, ◌++◌, length, set, sym, refl, ap, ◌∙◌, add-zero, arith, ltb-true}
+use Rattle.std.proofs.Common.{◌≡◌, ◌+◌, ◌<◌, true, cond, List, [], ◌∷◌, ◌++◌, length, set, sym, ap, ◌∙◌, add-zero, arith, ltb-true}
 use Rattle.std.proofs.lemmas.List.{length_push, length-append}
-use Rattle.refusals.specs.Told.{ok}
 use Rattle.rows.specs.declared.row.Row.{Row}
-use Rattle.rows.specs.Rows.{items_of, row_of, roomy, appends, Grown}
-use Rattle.rows.proofs.Filling.{filled_none, filled_more, filled-filled, length-filled, take-filled}
+use Rattle.rows.specs.Rows.{items_of, roomy, Grown}
+use Rattle.rows.proofs.Filling.{filled_none, filled_more, filled-filled, length-filled}
 
 module _ {A : Type 0} where
   pub grown_none : (a : Row A) → Grown a [] a
@@ -29,13 +28,5 @@ module _ {A : Type 0} where
   grown_then a b c xs ys g k =
       let l = length_grown a b xs g in
       let p = length-append xs ys in
-      let f = filled-filled (items_of a) a.count xs ys g.fits in
+      let f = filled-filled (items_of a) a.count xs ys (omega (arith, g.fits)) in
       record { count = omega (arith, p, g.count, k.count); fits = omega (arith, p, g.count, k.fits); items = cc }
-
-  pub row_grown : (a b : Row A) (xs : List A) → Grown a xs b → row_of b ≡ row_of a ++ xs
-  row_grown a b xs g = let t = take-filled (items_of a) a.count xs g.fits in cc
-
--- where an append was not refused there was room
-pub took : (room : Bool) → ok tt ≡ appends room → room ≡ true
-took true e = refl
-took false e = cc

@@ -28,8 +28,14 @@ use part::levels::Levels;
 use refusals::Refusal;
 use rows::row::Row;
 
-// The note of an accepted write takes the place of an earlier one, which is given up. A note is never dropped, so each arm
-// says where it goes.
+// A note that is still held is given up.
+fn let_go(note: Option<Busy>) {
+    if let Some(busy) = note {
+        busy.give_up();
+    }
+}
+
+// The note of an accepted write takes the place of an earlier one. A note is never dropped, so each arm says where it goes.
 fn run_write<P: Part>(
     board: &mut Board<P>,
     lines: &mut Levels,
@@ -41,9 +47,7 @@ fn run_write<P: Part>(
 {
     match write(board, lines, job) {
         Ok(busy) => {
-            if let Some(earlier) = note {
-                earlier.give_up();
-            }
+            let_go(note);
             (Some(busy), Ok(()))
         }
         Err(refusal) => (note, Err(refusal)),
@@ -144,9 +148,7 @@ fn run_jobs<P: Part>(
     for (before, (at, job)) in Jobs::new(file).enumerate() {
         note = run_next(board, lines, at, job, before + 1, note, results, bytes);
     }
-    if let Some(busy) = note {
-        busy.give_up();
-    }
+    let_go(note);
 }
 
 // Runs a whole job file. Its results are appended to the row and the answered bytes to the byte list; where either is too short

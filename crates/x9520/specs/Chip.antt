@@ -1,11 +1,11 @@
 -- The X9520, as functions over its state. Assumes nothing.
 -- k is a numbered part's number, of which there is only 0; i is a cell's number, j a wiper's;
 -- a is the transfer's address byte, x a byte, l the levels.
-use Rattle.std.specs.Prelude.{ℕ, ◌+◌, ◌/◌, ◌%◌, Bool, false, cond, not, ◌&&◌, List, Some, None, Option, nat_lt, slice_index_or}
+use Rattle.std.specs.Prelude.{ℕ, ◌+◌, ◌%◌, Bool, false, cond, not, ◌&&◌, List, Some, None, Option, nat_lt, slice_index_or}
 use Rattle.part.specs.declared.levels.Levels.{Levels}
 use Rattle.part.specs.Ops.{Ops, is}
-use Rattle.eeprom.specs.Cells.{byte_at, is_busy, unstages, stopped, cuts}
-use Rattle.eeprom.specs.OnePart.{OnePart, part_of}
+use Rattle.eeprom.specs.Cells.{byte_at, unstages, stopped, cuts}
+use Rattle.eeprom.specs.OnePart.{OnePart, part_of, hears_at}
 use Rattle.dcp.specs.declared.dcp.Dcp.{Dcp}
 use Rattle.dcp.specs.Wiper.{tap_of}
 use Rattle.protection.specs.declared.latches.Latches.{Latches}
@@ -23,7 +23,7 @@ use Rattle.x9520.specs.Writing.{aim_of, aim_acks, aimed, verdict, acks, taken, n
 
 -- it hears its addresses while no write is under way
 abbrev pub hears : X9520 → ℕ → Bool
-hears s x = known (x / 2) && not (is_busy s.eeprom)
+hears s = hears_at known s.eeprom
 
 -- A byte for sending is the one at the counter, which goes up, FFh to 00h; the wiper register last named; or the register. Out of turn it is FFh.
 abbrev pub source_in : Mode → Option Device

@@ -46,9 +46,11 @@ fn heard_in(mode: Mode) -> Option<u8>
     match mode {
         Mode::Idle => None,
         Mode::Aiming { device } => Some(write_byte(device)),
-        Mode::MemoryBytes => Some(0xa0),
-        Mode::DcpByte { .. } | Mode::Moved => Some(0xae),
-        Mode::RegisterByte | Mode::Latching { .. } | Mode::Storing { .. } => Some(0xa4),
+        Mode::MemoryBytes => Some(write_byte(Device::Memory)),
+        Mode::DcpByte { .. } | Mode::Moved => Some(write_byte(Device::Dcps)),
+        Mode::RegisterByte | Mode::Latching { .. } | Mode::Storing { .. } => {
+            Some(write_byte(Device::Register))
+        }
         Mode::Reading { device } => Some(write_byte(device) + 1),
     }
 }
@@ -134,6 +136,7 @@ impl Part for X9520 {
 
     ghost keeps = { keeps_x9520 };
 
+    // What every such chip answers alike is a line each, here and in its like: the methods of a trait stand in its impls.
     fn past(&self, part: usize) -> Option<usize> {
         part.checked_sub(1)
     }

@@ -9,7 +9,8 @@ use super::state::{Mode, X9520};
 use dcp::dcp::Dcp;
 use protection::lock::{locks_wipers, wp_forbids};
 
-// Lends one of the three to be moved, where there is such a one.
+// Lends one of the three to be moved, where there is such a one: by index, since after a `get_mut` the check knows nothing of
+// the array but its length.
 fn move_one(dcps: &mut [Dcp; 3], n: usize, byte: u8)
     ensures { dcps.new ≡ with_moved dcps.old n byte }
 {

@@ -7,7 +7,7 @@ use super::state::{Mode, X9520};
 use protection::latches::Latches;
 use protection::lock::wp_forbids;
 
-// The latches after a latch byte. The byte is matched as it comes on the wire, any of the 256, and here alone.
+// The latches after a latch byte. It is matched as it comes on the wire: a byte waits for the STOP, whatever it will do there.
 pub(super) fn latched(mut latches: Latches, byte: u8) -> Latches
     ensures { result ≡ latched latches byte }
 {

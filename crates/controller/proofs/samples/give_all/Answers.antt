@@ -21,7 +21,7 @@ loop-sample-preserved g c =
     let room : c.loop-sample.row.count < length (items_of c.loop-sample.row) = omega (arith, same, grown.count, c.loop-sample.invariant.1, c.requires.1) in (
       got ++ (bool_byte c.give-level.result ∷ []),
       length_push got (bool_byte c.give-level.result) ∙ ap (λ n. n + 1) c.loop-sample.invariant.1,
-      grown_more c.args.row.now c.loop-sample.row c.append.new.self got _ grown (lt-ltb _ _ room) c.append.ensures.count c.append.ensures.items,
+      grown_more c.args.row.now c.loop-sample.row c.append.new.self got _ grown (lt-ltb _ _ room) c.append.ensures.count (rw c.from.ensures at c.append.ensures.items),
       c.append.ensures.lender ∙ c.loop-sample.invariant.3,
       given_more g.P.Part.ops c.args.samples.now c.loop-sample.sample-index got c.give-level.result c.loop-sample.board _ c.loop-sample-test.true c.give-level.ensures c.loop-sample.invariant.4,
     )

@@ -3,7 +3,7 @@ use Rattle.controller.proofs.wires.receive.Goals as goal
 
 pub loop-n-preserved : goal.loop-n-preserved
 loop-n-preserved g c =
-    read_step g.P.Part.ops c.args.levels.now c.loop-n.byte c.loop-n._n c.loop-n.board _ _ c.loop-n-test.true c.loop-n.invariant.0 c.read_bit.ensures c.loop-n.invariant.1
+    rw c.from.ensures (read_step g.P.Part.ops c.args.levels.now c.loop-n.byte c.loop-n._n c.loop-n.board _ _ c.loop-n-test.true c.loop-n.invariant.0 c.read_bit.ensures c.loop-n.invariant.1)
 
 pub returns : goal.returns
 returns g c =

@@ -42,14 +42,8 @@ loop-before-preserved g c =
       ran.bytes_lender ∙ c.loop-before.invariant.5,
     )
 
-pub returns-in-Some-note-clause-board : goal.returns-in-Some-note-clause-board
-returns-in-Some-note-clause-board g c = (so_far_all g.P.Part.ops c.args.lines.now _ c.args.board.now c.args.results.now c.args.bytes.now _ _ _ _ _ c.loop-before.invariant.2 c.in-None.ensures.steps.0.0).0
+pub returns-clause-board : goal.returns-clause-board
+returns-clause-board g c = (so_far_all g.P.Part.ops c.args.lines.now _ c.args.board.now c.args.results.now c.args.bytes.now _ _ _ _ _ c.loop-before.invariant.2 c.in-None.ensures.steps.0.0).0
 
-pub returns-in-Some-note-clause-filed : goal.returns-in-Some-note-clause-filed
-returns-in-Some-note-clause-filed g c = (so_far_all g.P.Part.ops c.args.lines.now _ c.args.board.now c.args.results.now c.args.bytes.now _ _ _ _ _ c.loop-before.invariant.2 c.in-None.ensures.steps.0.0).1
-
-pub returns-in_default-clause-board : goal.returns-in_default-clause-board
-returns-in_default-clause-board g c = (so_far_all g.P.Part.ops c.args.lines.now _ c.args.board.now c.args.results.now c.args.bytes.now _ _ _ _ _ c.loop-before.invariant.2 c.in-None.ensures.steps.0.0).0
-
-pub returns-in_default-clause-filed : goal.returns-in_default-clause-filed
-returns-in_default-clause-filed g c = (so_far_all g.P.Part.ops c.args.lines.now _ c.args.board.now c.args.results.now c.args.bytes.now _ _ _ _ _ c.loop-before.invariant.2 c.in-None.ensures.steps.0.0).1
+pub returns-clause-filed : goal.returns-clause-filed
+returns-clause-filed g c = (so_far_all g.P.Part.ops c.args.lines.now _ c.args.board.now c.args.results.now c.args.bytes.now _ _ _ _ _ c.loop-before.invariant.2 c.in-None.ensures.steps.0.0).1
