@@ -1,7 +1,8 @@
 // A transfer on the wires by its state: quiet, writing or reading. Each state is moved into the next, so a byte cannot be
 // sent on a transfer that is open for reading, and no transfer is left open. Its number counts the bytes sent in the job so far.
 // The states are types of a plain number each and not one generic type, which would carry a marker beside the number; what two
-// of them share is in the functions `send_one` and `open_with`. No `?` leaves while a transfer is open: its state must go on.
+// of them share is in the functions `send_one` and `open_with`; how far it counts is a clause of each call (`count`). No `?` leaves
+// while a transfer is open: its state must go on.
 ghost use Rattle.std.specs.Prelude.{◌≡◌, []};
 ghost use Rattle.refusals.specs.Told.{told};
 ghost use Rattle.controller.specs.Master.{run};

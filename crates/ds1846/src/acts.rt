@@ -32,7 +32,7 @@ impl Ds1846 {
         self.eeprom.byte(n).unwrap_or(0)
     }
 
-    // Nothing staged stays, and the chip is out of the transfer.
+    // Nothing staged stays, and the chip is out of the transfer. Its contract speaks of the whole chip, so each chip has its own.
     fn leave(&mut self)
         ensures { self.new ≡ chip (unstages self.old.eeprom) self.old.counter Idle }
     {

@@ -45,6 +45,7 @@ impl<const N: usize> Eeprom<N> {
         self.bytes.get(n).copied()
     }
 
+    // This and the next read a list of their own, in a line each.
     pub fn staged(&self, n: usize) -> Option<u8>
         ensures { result ≡ staged_at self.now n }
     {

@@ -33,7 +33,8 @@ pub(crate) struct Fields<'a> {
     ghost inside: { at ≤ length file.now },
 }
 
-// Each reads the field that comes next, and goes on after it.
+// Each reads the field that comes next, and goes on after it. That it does is a clause of each (`ReadOn`), since it says what
+// this call has left, which no invariant of the type can.
 impl<'a> Fields<'a> {
     ghost use Rattle.jobfile.specs.Reading.{ReadOn};
 

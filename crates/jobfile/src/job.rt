@@ -4,8 +4,8 @@ use crate::samples::Samples;
 use crate::wait::Wait;
 use crate::write::Write;
 
-// A job. Its bytes are a part of the file, lent, with their offset there. Each record has its own maker and accessors, of a line
-// each: its fields and its limits are its own.
+// A job. Its bytes are a part of the file, lent, with their offset there. Each record has its own maker and accessors: one record
+// for what two of them share would be taken apart and put together again at each of its lines.
 #[derive(Clone, Copy)]
 pub enum Job<'a> {
     Write(Write<'a>),
