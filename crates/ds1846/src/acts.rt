@@ -89,11 +89,11 @@ impl Part for Ds1846 {
         }
     }
 
-    fn heard(&self) -> Option<u8> {
+    fn heard(&self, byte: u8) -> bool {
         match self.mode {
-            Mode::Idle => None,
-            Mode::Aiming | Mode::Writing => Some(WRITE),
-            Mode::Reading => Some(READ),
+            Mode::Idle => false,
+            Mode::Aiming | Mode::Writing => byte == WRITE,
+            Mode::Reading => byte == READ,
         }
     }
 
@@ -111,6 +111,7 @@ impl Part for Ds1846 {
 
     fn address(&mut self, byte: u8) -> bool {
         let ack = self.hears(byte);
+        self.leave();
         self.mode = if !ack {
             Mode::Idle
         } else if byte % 2 == 1 {

@@ -3,7 +3,7 @@
 use Rattle.std.specs.Prelude.{ℕ, ◌/◌, ◌%◌, Bool, false, cond, not, ◌&&◌, Some, None, Option, ◌==◌}
 use Rattle.part.specs.declared.levels.Levels.{Levels}
 use Rattle.part.specs.declared.power.PowerCut.{PowerCut}
-use Rattle.part.specs.Ops.{Ops}
+use Rattle.part.specs.Ops.{Ops, is}
 use Rattle.eeprom.specs.declared.Eeprom.{Eeprom}
 use Rattle.eeprom.specs.Cells.{byte_at, staged_at, under_at, is_busy, finishes}
 
@@ -52,7 +52,7 @@ module _ {S : Type 0} {N : ℕ} (c : OnePart S N) where
     under = λ s k i. of_part k (under_at (c.eeprom s) i) None;
     busy = λ s k. of_part k (is_busy (c.eeprom s)) false;
     tap = λ s k j. of_part k (c.tap s j) 0;
-    heard = c.heard;
+    heard = λ s x. is x (c.heard s);
     hears = λ s. hears_at c.has (c.eeprom s);
     renew = λ s. c.fresh;
     start = c.start;

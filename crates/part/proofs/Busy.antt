@@ -1,11 +1,11 @@
 -- A part that hears only while nothing is under way, takes only what it has heard, and forgets it at the STOP,
 -- has nothing staged and nothing heard while a write is under way. Assumes nothing.
-use Rattle.std.proofs.Common.{◌≡◌, ℕ, ◌%◌, Bool, true, false, ◌⊎◌, List, [], ◌∷◌, Some, None, Option, sym, refl, ap, ◌∙◌, inl, inr, ⊎_elim, arith}
+use Rattle.std.proofs.Common.{◌≡◌, ℕ, ◌%◌, Bool, true, false, ◌⊎◌, List, [], ◌∷◌, Some, None, Option, sym, refl, ◌∙◌, inl, inr, ⊎_elim, arith}
 use borrow.Author.Tests.{clash}
 use Rattle.std.specs.Option.{option_or}
 use Rattle.std.proofs.lemmas.Bool.{cases_eq}
 use Rattle.part.specs.declared.levels.Levels.{Levels}
-use Rattle.part.specs.Ops.{Ops, is}
+use Rattle.part.specs.Ops.{Ops}
 use Rattle.part.specs.Keeps.{Keeps, Lasting, Fades, Forgets, Finishes}
 use Rattle.part.specs.Moves.{Move, starting, addressing, aiming, taking, giving, levelling, stopping, finishing, cutting, renewing, moved, after}
 use Rattle.part.specs.Chips.{Chip, AlwaysChip}
@@ -14,15 +14,22 @@ use Rattle.part.specs.Chips.{Chip, AlwaysChip}
 pub record Shows {S : Type 0} (ops : Ops S) : Type 0 where
   pub offsets : (s : S) (k i : ℕ) → ops.offset s k i ≡ i % 16
   pub hears_free : (s : S) (k x : ℕ) → ops.busy s k ≡ true → ops.hears s x ≡ false
-  pub takes_heard : (s : S) (a : ℕ) (l : Levels) (x : ℕ) → ops.takes s a l x ≡ true → is a (ops.heard s) ≡ true
-  pub hangs_up : (s : S) (clean : Bool) (l : Levels) (x : ℕ) → is x (ops.heard (ops.stop s clean l)) ≡ false
+  pub one_heard : (s : S) (x y : ℕ) → ops.heard s x ≡ true → ops.heard s y ≡ true → x ≡ y
+  pub aim_unacked : (s : S) (a : ℕ) (l : Levels) (x : ℕ) → ops.aims s a l x ≡ false → (k i : ℕ) → ops.staged (ops.aim s a l x) k i ≡ None
+  pub take_unacked : (s : S) (a : ℕ) (l : Levels) (x : ℕ) → ops.takes s a l x ≡ false → (k i : ℕ) → ops.staged (ops.take s a l x) k i ≡ None
+  pub takes_heard : (s : S) (a : ℕ) (l : Levels) (x : ℕ) → ops.takes s a l x ≡ true → ops.heard s a ≡ true
+  pub hangs_up : (s : S) (clean : Bool) (l : Levels) (x : ℕ) → ops.heard (ops.stop s clean l) x ≡ false
   pub renews_free : (s : S) (k : ℕ) → ops.busy (ops.renew s) k ≡ false
   pub begins_all : (s : S) (l : Levels) (k i : ℕ) → l.wp ≡ false → ops.under (ops.stop s true l) k i ≡ option_or (ops.under s k i) (ops.staged s k i)
+
+not_true : (b : Bool) → (b ≡ true → ⊥) → b ≡ false
+not_true true h = absurd (h refl)
+not_true false h = refl
 
 module _ {S : Type 0} (ops : Ops S) (keeps : Keeps ops) (shows : Shows ops) where
   -- the part k has nothing under way, or nothing staged and nothing heard
   pub record Quiet (s : S) (k : ℕ) : Type 0 where
-    pub unheard : (x : ℕ) → is x (ops.heard s) ≡ false
+    pub unheard : (x : ℕ) → ops.heard s x ≡ false
     pub unstaged : (i : ℕ) → ops.staged s k i ≡ None
 
   abbrev Free : S → Type 0
@@ -33,9 +40,8 @@ module _ {S : Type 0} (ops : Ops S) (keeps : Keeps ops) (shows : Shows ops) wher
       let u = (keeps.shape t).busy_by k h in
       (keeps.shape s).busy_if k u.0 u.1.0 (sym (l.under k u.0) ∙ u.1.1)
 
-  unheard_after : (s t : S) → Forgets ops s t → ((x : ℕ) → is x (ops.heard s) ≡ false) → (x : ℕ) → is x (ops.heard t) ≡ false
-  unheard_after s t (inl e) n x = ap (is x) e ∙ n x
-  unheard_after s t (inr e) n x = ap (is x) e
+  unheard_after : (s t : S) → Forgets ops s t → ((x : ℕ) → ops.heard s x ≡ false) → (x : ℕ) → ops.heard t x ≡ false
+  unheard_after s t f n x = not_true (ops.heard t x) (λ h. clash (sym (n x) ∙ f x h))
 
   faded : (s t : S) (k i : ℕ) → (ops.staged t k i ≡ ops.staged s k i) ⊎ (ops.staged t k i ≡ None) → ops.staged s k i ≡ None → ops.staged t k i ≡ None
   faded s t k i (inl e) n = e ∙ n
@@ -52,7 +58,7 @@ module _ {S : Type 0} (ops : Ops S) (keeps : Keeps ops) (shows : Shows ops) wher
       let busy = was_busy s (ops.address s x) a.lasting k h in
       let q = free k busy in
       record {
-        unheard = ⊎_elim (λ f. unheard_after s (ops.address s x) f q.unheard) (λ o. absurd (clash (sym (shows.hears_free s k x busy) ∙ o.0))) a.heard;
+        unheard = λ y. not_true _ (λ e. ⊎_elim (λ o. clash (sym (q.unheard y) ∙ o)) (λ o. clash (sym (shows.hears_free s k x busy) ∙ o.1)) (a.heard y e));
         unstaged = λ i. faded s (ops.address s x) k i (a.fades k i) (q.unstaged i);
       }
 
@@ -62,7 +68,7 @@ module _ {S : Type 0} (ops : Ops S) (keeps : Keeps ops) (shows : Shows ops) wher
       absurd (clash (sym (q.unheard a) ∙ shows.takes_heard s a l x e))
   taken_by false s a l x e free k h =
       let t = keeps.taking s a l x in
-      calm s (ops.take s a l x) t.lasting (λ k i. inr ((t.unacked e).0 k i)) t.forgets free k h
+      calm s (ops.take s a l x) t.lasting (t.unacked e).1 t.forgets free k h
 
   no_write : (t : S) (k : ℕ) → ((i : ℕ) → ops.under t k i ≡ None) → ops.busy t k ≡ true → ⊥
   no_write t k n h = let u = (keeps.shape t).busy_by k h in let e = n u.0 in let f = u.1.1 in let z : ◌≡◌ {A = ℕ} 0 1 = cc in omega arith
@@ -103,6 +109,9 @@ module _ {S : Type 0} (ops : Ops S) (keeps : Keeps ops) (shows : Shows ops) wher
   chip s free = record {
     offsets = shows.offsets s;
     deaf = λ k h x. (shows.hears_free s k x h, (free k h).unheard x);
+    one_heard = shows.one_heard s;
+    aim_unacked = shows.aim_unacked s;
+    take_unacked = shows.take_unacked s;
     begins = λ l low k i v h. shows.begins_all s l k i low ∙ begun (ops.under s k i) (ops.staged s k i) v h (idle_cell s free k i v h (ops.under s k i) refl);
   }
 

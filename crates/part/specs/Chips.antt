@@ -1,7 +1,7 @@
 -- What a chip promises besides the laws of every part, in each state that its moves can make.
-use Rattle.std.specs.Prelude.{◌≡◌, ℕ, ◌%◌, true, false, List, Some}
+use Rattle.std.specs.Prelude.{◌≡◌, ℕ, ◌%◌, true, false, List, Some, None}
 use Rattle.part.specs.declared.levels.Levels.{Levels}
-use Rattle.part.specs.Ops.{Ops, is}
+use Rattle.part.specs.Ops.{Ops}
 use Rattle.part.specs.Moves.{Move, after}
 
 module _ {S : Type 0} (ops : Ops S) where
@@ -9,7 +9,12 @@ module _ {S : Type 0} (ops : Ops S) where
     -- a cell's offset in the mask of a power cut is its number modulo 16
     pub offsets : (k i : ℕ) → ops.offset s k i ≡ i % 16
     -- while a write is under way it hears nothing, and has heard nothing
-    pub deaf : (k : ℕ) → ops.busy s k ≡ true → (x : ℕ) → (ops.hears s x ≡ false) × (is x (ops.heard s) ≡ false)
+    pub deaf : (k : ℕ) → ops.busy s k ≡ true → (x : ℕ) → (ops.hears s x ≡ false) × (ops.heard s x ≡ false)
+    -- it has heard one address byte at most
+    pub one_heard : (x y : ℕ) → ops.heard s x ≡ true → ops.heard s y ≡ true → x ≡ y
+    -- without an ACK for a first byte or a later one nothing stays staged
+    pub aim_unacked : (a : ℕ) (l : Levels) (x : ℕ) → ops.aims s a l x ≡ false → (k i : ℕ) → ops.staged (ops.aim s a l x) k i ≡ None
+    pub take_unacked : (a : ℕ) (l : Levels) (x : ℕ) → ops.takes s a l x ≡ false → (k i : ℕ) → ops.staged (ops.take s a l x) k i ≡ None
     -- at a clean STOP with WP LOW all that is staged comes under way
     pub begins : (l : Levels) → l.wp ≡ false → (k i v : ℕ) → ops.staged s k i ≡ Some v → ops.under (ops.stop s true l) k i ≡ Some v
 

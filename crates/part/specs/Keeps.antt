@@ -40,9 +40,16 @@ module _ {S : Type 0} (ops : Ops S) where
   abbrev pub Unstaged : S → Type 0
   Unstaged t = (k i : ℕ) → ops.staged t k i ≡ None
 
-  -- the address heard stays or goes
+  -- nothing is staged in the part that owns the address a, if one does
+  abbrev pub UnstagedAt : S → ℕ → S → Type 0
+  UnstagedAt s a t = (k i : ℕ) → ops.owner s a ≡ Some k → ops.staged t k i ≡ None
+
+  -- what is heard was heard before; nothing is heard
   abbrev pub Forgets : S → S → Type 0
-  Forgets s t = (ops.heard t ≡ ops.heard s) ⊎ (ops.heard t ≡ None)
+  Forgets s t = (x : ℕ) → ops.heard t x ≡ true → ops.heard s x ≡ true
+
+  abbrev pub Unheard : S → Type 0
+  Unheard t = (x : ℕ) → ops.heard t x ≡ false
 
   -- no wiper moves
   abbrev pub Still : S → S → Type 0
@@ -58,7 +65,7 @@ module _ {S : Type 0} (ops : Ops S) where
   pub record Starts (s t : S) : Type 0 where
     pub calm : Calm s t
     pub unstaged : Unstaged t
-    pub unheard : ops.heard t ≡ None
+    pub unheard : Unheard t
 
   -- an address byte x: only by an ACK is it the address heard
   pub record Addresses (s : S) (x : ℕ) (t : S) : Type 0 where
@@ -66,16 +73,16 @@ module _ {S : Type 0} (ops : Ops S) where
     pub lasting : Lasting s t
     pub fades : Fades s t
     pub still : Still s t
-    pub heard : Forgets s t ⊎ ((ops.hears s x ≡ true) × (ops.heard t ≡ Some x))
+    pub heard : (y : ℕ) → ops.heard t y ≡ true → (ops.heard s y ≡ true) ⊎ ((y ≡ x) × (ops.hears s x ≡ true))
 
-  -- the first byte after a write address
-  pub record Aims (s : S) (ack : Bool) (t : S) : Type 0 where
+  -- the first byte after a write address, under the address byte a
+  pub record Aims (s : S) (a : ℕ) (ack : Bool) (t : S) : Type 0 where
     pub calm : Calm s t
     pub still : Still s t
-    pub unacked : ack ≡ false → Unstaged t
+    pub unacked : ack ≡ false → UnstagedAt s (a / 2) t
 
   -- a later byte x under the address byte a: with an ACK one write of x may be staged, in the part that owns the address, and a wiper may move;
-  -- without one nothing stays staged and no wiper moves
+  -- without one nothing stays staged there, nothing comes to be staged elsewhere, and no wiper moves
   pub record Takes (s : S) (a x : ℕ) (ack : Bool) (t : S) : Type 0 where
     pub fixed : Fixed s t
     pub lasting : Lasting s t
@@ -84,7 +91,7 @@ module _ {S : Type 0} (ops : Ops S) where
         (ops.staged t k i ≡ ops.staged s k i)
         ⊎ ((ops.staged t k i ≡ None)
         ⊎ ((i ≡ n) × (ops.owner s (a / 2) ≡ Some k) × (ops.staged t k i ≡ Some x))))
-    pub unacked : ack ≡ false → Unstaged t × Still s t
+    pub unacked : ack ≡ false → UnstagedAt s (a / 2) t × Fades s t × Still s t
 
   -- a byte fetched for sending, and the levels
   pub record Passes (s t : S) : Type 0 where
@@ -129,7 +136,7 @@ module _ {S : Type 0} (ops : Ops S) where
     pub unmarked : (k i : ℕ) → (Marked p.mask (ops.offset s k i) → ⊥) → ops.cell t k i ≡ ops.cell s k i
     pub ends : (k i : ℕ) → ops.under t k i ≡ None
     pub unstaged : Unstaged t
-    pub unheard : ops.heard t ≡ None
+    pub unheard : Unheard t
 
   -- the levels l are known: given again, they change nothing
   abbrev pub Settled : Levels → S → Type 0
@@ -152,7 +159,7 @@ pub record Keeps {S : Type 0} (ops : Ops S) : Type 0 where
   pub renews : (s : S) → Fixed ops s (ops.renew s)
   pub starts : (s : S) → Starts ops s (ops.start s)
   pub addresses : (s : S) (x : ℕ) → Addresses ops s x (ops.address s x)
-  pub aiming : (s : S) (a : ℕ) (l : Levels) (x : ℕ) → Aims ops s (ops.aims s a l x) (ops.aim s a l x)
+  pub aiming : (s : S) (a : ℕ) (l : Levels) (x : ℕ) → Aims ops s a (ops.aims s a l x) (ops.aim s a l x)
   pub taking : (s : S) (a : ℕ) (l : Levels) (x : ℕ) → Takes ops s a x (ops.takes s a l x) (ops.take s a l x)
   pub gives : (s : S) (a : ℕ) → Passes ops s (ops.give s a)
   pub levels : (s : S) (l : Levels) → Passes ops s (ops.level s l)

@@ -22,8 +22,8 @@ pub record Ops (S : Type 0) : Type 0 where
   pub busy : S → ℕ → Bool
   -- where a wiper stands
   pub tap : S → ℕ → ℕ → ℕ
-  -- the address byte heard, and whether an address byte would be heard now
-  pub heard : S → Option ℕ
+  -- whether an address byte is one heard in this transfer, and whether it would be heard now
+  pub heard : S → ℕ → Bool
   pub hears : S → ℕ → Bool
   -- every chip in it made fresh, any other part as it was
   pub renew : S → S
@@ -48,7 +48,7 @@ pub record Ops (S : Type 0) : Type 0 where
 abbrev pub past : ℕ → ℕ → Option ℕ
 past n k = cond (nat_lt k n) None (Some (k - n))
 
--- the owner is number k
+-- there is a number, and it is k
 abbrev pub is : ℕ → Option ℕ → Bool
 is k None = false
 is k (Some o) = o == k

@@ -1,5 +1,5 @@
 // The interface of a part: what is asked of it and what moves it, byte by byte.
-// The wire engine holds any part; each chip, and later each layer over parts, is one.
+// The wire engine holds any part; each chip is one, and each layer over parts.
 #![tactic(auto)]
 
 ghost use Rattle.std.specs.Prelude.{◌≡◌};
@@ -47,9 +47,11 @@ pub trait Part {
     fn tap(&self, part: usize, n: usize) -> Option<u16>
         ensures { result ≡ below (ops.wipers self.now part) n (ops.tap self.now part n) };
 
-    fn heard(&self) -> Option<u8>
-        ensures { result ≡ ops.heard self.now };
+    // Whether this address byte was heard in this transfer.
+    fn heard(&self, byte: u8) -> bool
+        ensures { result ≡ ops.heard self.now byte };
 
+    // Whether this address byte would be heard now.
     fn hears(&self, byte: u8) -> bool
         ensures { result ≡ ops.hears self.now byte };
 

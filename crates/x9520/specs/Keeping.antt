@@ -1,13 +1,11 @@
 -- The chip keeps the laws of a part. Assumes nothing.
-use Rattle.std.specs.Prelude.{◌≡◌, ℕ, ◌/◌, ◌%◌, Bool, true, false, cond, not, ◌&&◌, ◌⊎◌, Some, None, Option, ◌==◌, refl}
-use Rattle.std.proofs.Common.{ap, sym, inl, inr}
-use borrow.Author.Tests.{clash}
-use Rattle.std.proofs.lemmas.Bool.{eqb-true, eq-eqb, and_parts, cond-true}
+use Rattle.std.specs.Prelude.{◌≡◌, ℕ, ◌/◌, ◌%◌, Bool, true, false, cond, not, ◌&&◌, ◌⊎◌, Some, None, ◌==◌, refl}
+use Rattle.std.proofs.Common.{ap, inl, inr}
+use Rattle.std.proofs.lemmas.Bool.{and_parts, cond-true}
 use Rattle.part.specs.declared.levels.Levels.{Levels}
-use Rattle.part.specs.Ops.{is}
-use Rattle.part.specs.Keeps.{Keeps, Addresses, Aims, Takes, Settles}
+use Rattle.part.specs.Keeps.{Keeps, Unstaged, Takes, Settles}
 use Rattle.eeprom.specs.Cells.{is_busy}
-use Rattle.eeprom.proofs.OnePart.{unstages_rests, fixed, lasting, unstaged, still, dropped, drops, OwnMoves, keeps_part}
+use Rattle.eeprom.proofs.OnePart.{fixed, lasting, unstaged, still, refused, Addressed, Aimed, OwnMoves, keeps_part}
 use Rattle.x9520.specs.declared.state.Flags.{Flags}
 use Rattle.x9520.specs.declared.state.Mode.{Mode}
 use Rattle.x9520.specs.declared.state.Mode.TheVariants.{Idle, Aiming, MemoryBytes, DcpByte, RegisterByte, Moved, Latching, Storing, Reading}
@@ -18,35 +16,18 @@ use Rattle.x9520.specs.State.{chip, flags, known, heard_in, mode_after}
 use Rattle.x9520.specs.Writing.{verdict}
 use Rattle.x9520.specs.Bytes.{taken_rests, taken_none, target, taken_staged, taken_dcps, taken_heard, aimed_heard, acked_known, mode_heard}
 
--- where each byte heard afterwards is one heard before, the address heard stays or goes
-forgets_by : (o p : Option ℕ) → ((y : ℕ) → is y p ≡ true → is y o ≡ true) → (p ≡ o) ⊎ (p ≡ None)
-forgets_by o None h = inr refl
-forgets_by None (Some y) h = absurd (clash (h y (eq-eqb y y refl)))
-forgets_by (Some z) (Some y) h = inl (ap Some (sym (eqb-true z y (h y (eq-eqb y y refl)))))
+heard_after : (b : Bool) (x : ℕ) (t : Bool) → (known (x / 2) && t) ≡ b → (heard_in (mode_after b x) ≡ None) ⊎ ((heard_in (mode_after b x) ≡ Some x) × ((known (x / 2) && t) ≡ true))
+heard_after true x t e = inr (mode_heard (x % 2 == 1) x refl (and_parts _ _ e).0, e)
+heard_after false x t e = inl refl
 
-heard_after : (b : Bool) (o : Option ℕ) (x : ℕ) (t : Bool) → (known (x / 2) && t) ≡ b → ((heard_in (mode_after b x) ≡ o) ⊎ (heard_in (mode_after b x) ≡ None)) ⊎ (((known (x / 2) && t) ≡ true) × (heard_in (mode_after b x) ≡ Some x))
-heard_after true o x t e = inr (e, mode_heard (x % 2 == 1) x refl (and_parts _ _ e).0)
-heard_after false o x t e = inl (inr refl)
+addressed : (s : X9520) (x : ℕ) → Addressed as_part s x (x9520.address s x)
+addressed s x = record { eeprom = refl; tap = λ j. refl; heard = heard_after (hears s x) x (not (is_busy s.eeprom)) refl }
 
-addresses : (s : X9520) (x : ℕ) → Addresses x9520 s x (x9520.address s x)
-addresses s x =
-    let t = x9520.address s x in
-    record {
-      fixed = fixed as_part s t;
-      lasting = lasting as_part s t (unstages_rests s.eeprom);
-      fades = λ k i. inr (dropped as_part s t refl k i);
-      still = λ k j. refl;
-      heard = heard_after (hears s x) (heard_in s.mode) x (not (is_busy s.eeprom)) refl;
-    }
+aimed : (s : X9520) (a : ℕ) (l : Levels) (x : ℕ) → Aimed as_part s (x9520.aim s a l x)
+aimed s a l x = record { eeprom = refl; tap = λ j. refl; forgets = aimed_heard s a x }
 
-aiming : (s : X9520) (a : ℕ) (l : Levels) (x : ℕ) → Aims x9520 s (x9520.aims s a l x) (x9520.aim s a l x)
-aiming s a l x =
-    let t = x9520.aim s a l x in
-    record {
-      calm = drops as_part s t refl (forgets_by (heard_in s.mode) _ (aimed_heard s a x));
-      still = λ k j. refl;
-      unacked = λ h. dropped as_part s t refl;
-    }
+unacked : (s : X9520) (a : ℕ) (l : Levels) (x : ℕ) → x9520.takes s a l x ≡ false → Unstaged x9520 (x9520.take s a l x)
+unacked s a l x h = unstaged as_part (x9520.take s a l x) (λ i. taken_none (verdict s a l.wp x) s.eeprom s.counter s.named x i h)
 
 taking : (s : X9520) (a : ℕ) (l : Levels) (x : ℕ) → Takes x9520 s a x (x9520.takes s a l x) (x9520.take s a l x)
 taking s a l x =
@@ -58,11 +39,9 @@ taking s a l x =
     record {
       fixed = fixed as_part s t;
       lasting = lasting as_part s t (taken_rests v e n m x);
-      forgets = forgets_by (heard_in s.mode) _ (taken_heard s a l.wp x);
+      forgets = taken_heard s a l.wp x;
       acked = λ h. (target v n m, λ k i. taken_staged v e n m x k i _ (cond-true _ _ _ (acked_known s a l.wp x h)) h);
-      unacked = λ h.
-          let none = unstaged as_part t (λ i. taken_none v e n m x i h) in
-          (none, still as_part s t (λ j. ap (λ d. tap_at d j) (taken_dcps v s.dcps m x h)));
+      unacked = λ h. refused as_part s t (a / 2) (unacked s a l x h) (still as_part s t (λ j. ap (λ d. tap_at d j) (taken_dcps v s.dcps m x h)));
     }
 
 -- a flag that a LOW output has cleared stays so at the same level
@@ -111,9 +90,10 @@ moves = record {
   put_heard = λ s e. refl;
   put_back = λ s. refl;
   start = λ s. record { eeprom = refl; heard = refl };
-  address = addresses;
-  aim = aiming;
+  address = addressed;
+  aim = aimed;
   take = taking;
+  unacked = unacked;
   give = λ s a. record { eeprom = refl; tap = λ j. refl; heard = refl };
   level = λ s l. record { eeprom = refl; tap = λ j. refl; heard = refl };
   stop = λ s clean l. record { eeprom = refl; heard = refl };

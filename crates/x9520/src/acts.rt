@@ -1,6 +1,5 @@
 // What the chip answers, and what moves it.
 ghost use Rattle.std.specs.Prelude.{◌≡◌, ◌/◌, if◌then◌else◌};
-ghost use Rattle.part.specs.Ops.{is};
 ghost use Rattle.x9520.specs.Chip.{x9520, hears, latches_stopped, flags_stopped};
 ghost use Rattle.x9520.specs.Register.{stored_register};
 ghost use Rattle.x9520.specs.State.{known, device, write_byte, heard_in};
@@ -56,13 +55,6 @@ fn heard_in(mode: Mode) -> Option<u8>
 }
 
 impl X9520 {
-    // Whether this is the address byte heard.
-    fn in_turn(&self, byte: u8) -> bool
-        ensures { result ≡ is byte (heard_in self.now.mode) }
-    {
-        self.heard() == Some(byte)
-    }
-
     // What an address byte that is heard now is for.
     fn device_heard(&self, byte: u8) -> Option<Device>
         ensures { result ≡ (if hears self.now byte then Some (device (byte / 2)) else None) }
@@ -173,8 +165,8 @@ impl Part for X9520 {
         of_part(part, self.wiper_tap(n), None)
     }
 
-    fn heard(&self) -> Option<u8> {
-        heard_in(self.mode)
+    fn heard(&self, byte: u8) -> bool {
+        heard_in(self.mode) == Some(byte)
     }
 
     fn hears(&self, byte: u8) -> bool {
@@ -201,7 +193,7 @@ impl Part for X9520 {
     }
 
     fn aim(&mut self, address: u8, _levels: Levels, byte: u8) -> bool {
-        if !self.in_turn(address) {
+        if !self.heard(address) {
             return self.refuse();
         }
         match self.mode {
@@ -211,7 +203,7 @@ impl Part for X9520 {
     }
 
     fn take(&mut self, address: u8, levels: Levels, byte: u8) -> bool {
-        if !self.in_turn(address) {
+        if !self.heard(address) {
             return self.refuse();
         }
         match self.mode {
@@ -223,7 +215,7 @@ impl Part for X9520 {
     }
 
     fn give(&mut self, address: u8) -> u8 {
-        if !self.in_turn(address) {
+        if !self.heard(address) {
             return 0xff;
         }
         match self.mode {
