@@ -1,10 +1,11 @@
 -- Samples and finishes given to a board by its own step functions, and what is asked of it afterwards.
 -- A sample has SCL in bit 0 and the master's SDA in bit 1; WP and the monitors are LOW.
-use Rattle.std.specs.Prelude.{ℕ, zero, suc, ◌+◌, ◌*◌, ◌/◌, ◌%◌, ◌^◌, Bool, cond, List, [], ◌∷◌, ◌++◌}
+use Rattle.std.specs.Prelude.{ℕ, zero, suc, ◌+◌, ◌*◌, ◌/◌, ◌%◌, ◌^◌, cond, List, [], ◌∷◌, ◌++◌}
 use Rattle.refusals.specs.Told.{Told, ok, refused}
 use Rattle.part.specs.Ops.{Ops}
 use Rattle.board.specs.declared.board.Board.{Board}
-use Rattle.board.specs.Engine.{sampled, finished, cell_told, tap_told, bit_value}
+use Rattle.board.specs.Samples.{bit_value}
+use Rattle.board.specs.Engine.{sampled, finished, cell_told, tap_told}
 
 pub data Call : Type 0 where
   samples : List ℕ → Call

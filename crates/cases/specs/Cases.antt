@@ -1,7 +1,7 @@
 -- The worked cases, on a board with a fresh X9520 (part 0) paired with a fresh DS1846 (part 1).
 -- The X9520 has its memory at 50h (80), its register at 52h (82) and its DCPs at 57h (87); the DS1846 is at 51h (81).
 use Rattle.std.specs.Prelude.{◌≡◌, ℕ, List, [], ◌∷◌, ◌++◌, map}
-use Rattle.refusals.specs.Told.{Told, ok}
+use Rattle.refusals.specs.Told.{ok}
 use Rattle.board.specs.declared.board.Board.{Board}
 use Rattle.board.specs.Engine.{idle}
 use Rattle.ds1846.specs.declared.state.Ds1846.{Ds1846}

@@ -6,8 +6,8 @@ use Rattle.refusals.specs.Told.{Told, ok, refused}
 use Rattle.ds1846.specs.Chip.{ds1846}
 use Rattle.x9520.specs.Chip.{x9520}
 use Rattle.pair.specs.Both.{both}
-use Rattle.dcp.specs.Taps.{bytes, place_from, tap_in}
-use Rattle.eeprom.specs.Cells.{table, all_of, any_of}
+use Rattle.dcp.specs.Taps.{bytes, tap_in}
+use Rattle.eeprom.specs.Cells.{table, all_of}
 use Rattle.jobfile.specs.Fields.{number_from}
 use Rattle.cases.specs.Play.{play, answer}
 use Rattle.cases.specs.Cases.{Case, board, taps, spelled, fresh_board, Holds, cases, All, EveryCaseHolds}
@@ -53,7 +53,7 @@ all_hold [] h = tt
 all_hold (c ∷ cs) h = (holds c (and_parts _ _ h).0, all_hold cs (and_parts _ _ h).1)
 
 computed : all_pass cases ≡ true
-unfolding table all_of any_of bytes place_from number_from play answer
+unfolding table all_of bytes tap_in number_from play answer
 computed = refl
 
 pub every_case_holds : EveryCaseHolds
