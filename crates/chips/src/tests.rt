@@ -1,6 +1,7 @@
 // What the tests share: transfers given to a part byte by byte.
 mod dcps;
 mod lock;
+mod pairs;
 mod register;
 mod renewal;
 

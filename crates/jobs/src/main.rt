@@ -1,8 +1,9 @@
-// Runs a job file from standard input on a board with one fresh DS1846, and prints a line for each job.
+// Runs a job file from standard input on a board with a fresh X9520 (part 0) paired with a fresh DS1846 (part 1), and prints a line for each job.
 #![tactic(auto)]
 
 use board::board::Board;
 use ds1846::state::Ds1846;
+use pair::Pair;
 use part::levels::Levels;
 use refusals::Refusal;
 use rows::row::Row;
@@ -11,6 +12,7 @@ use runner::result::{Done, JobResult, Refused};
 use runner::room::room_for;
 use runner::run::run_file;
 use std::io::Read;
+use x9520::state::X9520;
 
 // The longest job file.
 const MOST: usize = 4096;
@@ -32,7 +34,7 @@ fn read_file(rt: &HostRuntime) -> anyhow::Result<Vec<u8>> {
 }
 
 fn run(rt: &HostRuntime, file: &[u8]) -> anyhow::Result<()> {
-    let mut board = Board::new(Ds1846::fresh());
+    let mut board = Board::new(Pair::new(X9520::fresh(), Ds1846::fresh()));
     let mut lines = Levels {
         wp: false,
         v2ro: false,
