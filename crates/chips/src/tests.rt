@@ -1,5 +1,6 @@
 // What the tests share: transfers given to a part byte by byte.
 mod dcps;
+mod ds1846;
 mod lock;
 mod pairs;
 mod register;
