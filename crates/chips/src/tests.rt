@@ -1,6 +1,6 @@
 // What the tests share: transfers given to a part byte by byte.
 mod dcps;
-mod ds1846;
+mod ds1846_chip;
 mod lock;
 mod pairs;
 mod register;
