@@ -1,5 +1,6 @@
 ghost use Rattle.std.specs.Prelude.{◌≡◌};
 ghost use Rattle.part.specs.Chips.{AlwaysChip};
+ghost use Rattle.part.specs.Seats.{Itself};
 ghost use Rattle.ds1846.specs.Chip.{ds1846, fresh};
 
 use eeprom::Eeprom;
@@ -22,9 +23,10 @@ pub struct Ds1846 {
 }
 
 impl Ds1846 {
-    // Besides, what a chip promises in every state that moves can make of it.
+    // Besides, that the chip is a part of its own, and what it promises in every state that moves can make of it.
     pub fn fresh() -> Ds1846
         ensures made { result ≡ fresh }
+        ensures seat { Itself ds1846 }
         ensures always { AlwaysChip ds1846 fresh }
     {
         Ds1846 {

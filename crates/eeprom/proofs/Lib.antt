@@ -3,3 +3,4 @@ pub mod Moves
 pub mod Numbered
 pub mod OnePart
 pub mod Places
+pub mod Seat

@@ -5,6 +5,7 @@
 ghost use Rattle.std.specs.Prelude.{◌≡◌};
 ghost use Rattle.pair.specs.Both.{both, join};
 ghost use Rattle.pair.specs.Keeping.{keeps_both};
+ghost use Rattle.pair.specs.Seats.{Firsts, Seconds};
 
 use part::Part;
 use part::levels::Levels;
@@ -22,6 +23,13 @@ impl<A: Part, B: Part> Pair<A, B> {
     {
         Pair { first, second }
     }
+
+    // Does nothing. It promises that a chip of type C that sits in either part sits in the pair:
+    // a clause of `new` could not speak of every type C, and this function's are for each C that it is called at.
+    pub fn seats<C: Part>()
+        ensures firsts { Firsts A.Part.ops B.Part.ops C.Part.ops }
+        ensures seconds { Seconds A.Part.ops B.Part.ops C.Part.ops }
+    {}
 }
 
 impl<A: Part, B: Part> Part for Pair<A, B> {

@@ -2,3 +2,4 @@ pub mod Chips
 pub mod Keeps
 pub mod Moves
 pub mod Ops
+pub mod Seats

@@ -1,2 +1,6 @@
 pub mod Alone
 pub mod Standing
+pub mod Lock
+pub mod Calm
+pub mod Place
+pub mod Waiting

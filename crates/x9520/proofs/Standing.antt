@@ -74,7 +74,7 @@ named_in (Latching y) x n h = h
 named_in (Storing y) x n h = h
 named_in (Reading d) x n h = h
 
-named_by : (t : Bool) (w : Mode) (x n : ℕ) → n < 3 → aim_named (cond t (aim_in w x) rejected) n < 3
+pub named_by : (t : Bool) (w : Mode) (x n : ℕ) → n < 3 → aim_named (cond t (aim_in w x) rejected) n < 3
 named_by true w x n h = named_in w x n h
 named_by false w x n h = h
 

@@ -5,3 +5,4 @@ pub mod State
 pub mod Writing
 pub mod Keeping
 pub mod Bytes
+pub mod Locks

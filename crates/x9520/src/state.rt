@@ -1,6 +1,7 @@
 // What an X9520 holds between two calls.
 ghost use Rattle.std.specs.Prelude.{◌≡◌, false};
 ghost use Rattle.part.specs.Chips.{AlwaysChip};
+ghost use Rattle.part.specs.Seats.{Itself};
 ghost use Rattle.x9520.specs.Chip.{x9520};
 ghost use Rattle.x9520.specs.Register.{stored_register};
 ghost use Rattle.x9520.specs.Sound.{AlwaysSound};
@@ -117,9 +118,10 @@ impl X9520 {
         false
     }
 
-    // Besides, what the chip promises in every state that moves can make of it.
+    // Besides, that the chip is a part of its own, and what it promises in every state that moves can make of it.
     pub fn fresh() -> X9520
         ensures made { result ≡ fresh }
+        ensures seat { Itself x9520 }
         ensures always { AlwaysChip x9520 fresh }
         ensures sound { AlwaysSound fresh }
     {

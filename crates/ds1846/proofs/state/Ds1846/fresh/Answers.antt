@@ -1,5 +1,11 @@
+use Rattle.eeprom.proofs.Seat.{sits_itself}
+use Rattle.ds1846.specs.Chip.{as_part}
+use Rattle.ds1846.specs.Keeping.{moves}
 use Rattle.ds1846.proofs.Alone.{always_ds1846}
 use Rattle.ds1846.proofs.state.Ds1846.fresh.Goals as goal
+
+pub returns-clause-seat : goal.returns-clause-seat
+returns-clause-seat c = sits_itself as_part moves
 
 pub returns-clause-always : goal.returns-clause-always
 returns-clause-always c = always_ds1846
