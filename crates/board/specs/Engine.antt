@@ -1,10 +1,12 @@
--- The wire engine: what one sample, one finish and one question do to a board, in the words of the wires.
+-- The wire engine: what one sample, one finish, one power cut and one question do to a board, in the words of the wires.
 -- A rise is SCL going HIGH, a fall SCL going LOW. START is SDA going LOW, STOP is SDA going HIGH, with SCL HIGH in both samples.
 use Rattle.std.specs.Prelude.{ℕ, ◌+◌, ◌*◌, ◌/◌, ◌%◌, Bool, true, false, cond, not, ◌&&◌, Some, None, Option, ◌==◌, nat_le, nat_lt}
 use Rattle.refusals.specs.Told.{Told, ok, refused}
 use Rattle.part.specs.declared.levels.Levels.{Levels}
+use Rattle.part.specs.declared.power.PowerCut.{PowerCut}
 use Rattle.part.specs.Ops.{Ops, below}
 use Rattle.board.specs.declared.board.Board.{Board}
+use Rattle.board.specs.declared.bus.Bus.{Bus}
 use Rattle.board.specs.declared.bus.Kind.{Kind}
 use Rattle.board.specs.declared.bus.Kind.TheVariants.{Address, First, Later}
 use Rattle.board.specs.declared.bus.Next.{Next}
@@ -43,14 +45,17 @@ clean (Wanted address) = false
 abbrev pub opened : Kind → Phase
 opened kind = Taking kind 0 0
 
+-- both wires HIGH before, no transfer open, nothing pulled
+abbrev pub idle_bus : Bus
+idle_bus = record { scl = true; sda = true; phase = Closed }
+
 module _ {S : Type 0} where
   -- the board with another phase and part
   abbrev pub with : Board S → Phase → S → Board S
   with b ph s = record { bus = record { scl = b.bus.scl; sda = b.bus.sda; phase = ph }; part = s }
 
-  -- both wires HIGH before, no transfer open, nothing pulled
   abbrev pub idle : S → Board S
-  idle s = record { bus = record { scl = true; sda = true; phase = Closed }; part = s }
+  idle s = record { bus = idle_bus; part = s }
 
   module _ (ops : Ops S) where
     -- a whole byte sent by the master, with whether it gets an ACK; without one the part is deaf until START
@@ -94,7 +99,7 @@ module _ {S : Type 0} where
 
     -- the byte fetched is on the wire with its highest bit
     abbrev pub fetch : Board S → ℕ → Board S
-    fetch b a = with b (Giving a 0 (ops.given b.part a % 128 * 2) (nat_le 128 (ops.given b.part a))) (ops.give b.part a)
+    fetch b a = with b (Giving a 0 (ops.given b.part a % 128 * 2) (odd (ops.given b.part a / 128))) (ops.give b.part a)
 
     abbrev pub go_on : Next → Board S → Board S
     go_on (ThenFirst a) b = with b (opened (First a)) b.part
@@ -201,6 +206,10 @@ module _ {S : Type 0} where
 
     abbrev pub finish_told : Board S → ℕ → Told (Unit {0})
     finish_told b k = finish_told_by (numbered b k) (ops.busy b.part k)
+
+    -- A power cut: the part stores and loses what its law says and powers up, on wires that are as on a board just made.
+    abbrev pub cut : Board S → PowerCut → Board S
+    cut b p = idle (ops.cut b.part p)
 
     -- A question, with whether the board has the part, and what stands there, if anything does.
     abbrev pub asked : Bool → Option ℕ → Told ℕ

@@ -1,2 +1,9 @@
+pub mod Cause
+pub mod Clocks
 pub mod Engine
+pub mod Lock
+pub mod Obeys
+pub mod Recovery
+pub mod Runs
 pub mod Samples
+pub mod Wires

@@ -23,11 +23,7 @@ impl<P: Part> Board<P> {
     {
         let mut part = part;
         part.renew();
-        let bus = Bus {
-            scl: true,
-            sda: true,
-            phase: Phase::Closed,
-        };
+        let bus = Bus::idle();
         Board { bus, part }
     }
 
@@ -249,7 +245,7 @@ impl<P: Part> Board<P> {
             address,
             rises: 0,
             rest: byte % 128 * 2,
-            bit: byte >= 128,
+            bit: byte / 128 % 2 == 1,
         };
     }
 }

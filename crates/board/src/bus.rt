@@ -1,6 +1,6 @@
 // Where the bus stands between two samples.
 ghost use Rattle.std.specs.Prelude.{◌≡◌};
-ghost use Rattle.board.specs.Engine.{pulls, clean, opened};
+ghost use Rattle.board.specs.Engine.{pulls, clean, opened, idle_bus};
 
 // What a byte that the master sends is in its transfer.
 #[derive(Clone, Copy, PartialEq, Eq, Debug)]
@@ -101,4 +101,17 @@ pub struct Bus {
     pub scl: bool,
     pub sda: bool,
     pub phase: Phase,
+}
+
+impl Bus {
+    // The wires when nobody drives them: both HIGH, no transfer open and nothing pulled.
+    pub(crate) fn idle() -> Bus
+        ensures { result ≡ idle_bus }
+    {
+        Bus {
+            scl: true,
+            sda: true,
+            phase: Phase::Closed,
+        }
+    }
 }

@@ -3,4 +3,5 @@
 
 pub mod board;
 pub mod bus;
+pub mod call;
 pub mod sample;

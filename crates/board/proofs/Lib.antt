@@ -1,0 +1,13 @@
+pub mod Bearing
+pub mod Causing
+pub mod Clocks
+pub mod Edges
+pub mod Events
+pub mod Latching
+pub mod Locking
+pub mod Phases
+pub mod Placing
+pub mod Recovering
+pub mod Running
+pub mod Seated
+pub mod Splices
