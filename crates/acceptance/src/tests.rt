@@ -1,4 +1,5 @@
 // What the tests share.
+mod power;
 mod refusals_keep;
 mod stored;
 mod whole_file;

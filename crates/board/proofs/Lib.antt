@@ -1,9 +1,11 @@
 pub mod Bearing
+pub mod Calls
 pub mod Causing
 pub mod Clocks
 pub mod Edges
 pub mod Events
 pub mod Latching
+pub mod Lawful
 pub mod Locking
 pub mod Phases
 pub mod Placing

@@ -1,13 +1,18 @@
-// A board: the bus and the part on it. Nothing lends either of them to be changed: only samples and finishes move a board.
+// A board: the bus and the part on it. Nothing lends either of them to be changed: only samples, finishes and power cuts move a board.
 ghost use Rattle.std.specs.Prelude.{◌≡◌};
 ghost use Rattle.refusals.specs.Told.{told};
+ghost use Rattle.board.specs.Cause.{Caused};
+ghost use Rattle.board.specs.Lock.{Locks};
+ghost use Rattle.board.specs.Obeys.{Obeys};
+ghost use Rattle.board.specs.Recovery.{Recoverable};
 ghost use Rattle.board.specs.Engine.{idle, whole, rise, fetch, go_on, fall, start, stop, move};
-ghost use Rattle.board.specs.Engine.{sampled, sample_told, finished, finish_told, numbered_told, cell_told, tap_told};
+ghost use Rattle.board.specs.Engine.{sampled, sample_told, finished, finish_told, cut, numbered_told, cell_told, tap_told};
 
 use super::bus::{Bus, Kind, Next, Phase};
 use super::sample::Sample;
 use part::Part;
 use part::levels::Levels;
+use part::power::PowerCut;
 use refusals::Refusal;
 
 #[derive(Drop, PartialEq, Eq, Debug)]
@@ -17,9 +22,16 @@ pub struct Board<P> {
 }
 
 impl<P: Part> Board<P> {
-    // A board on which every chip of the part is fresh.
+    // A board on which every chip of the part is fresh. What holds of every run of calls from here on stands here:
+    // each state is what the rules make of the calls so far, a stored byte changes only for cause, the lock of every
+    // X9520 holds, and ten clocks free the wires.
+    #[tactic(auto, using(crate::proofs::Lawful::made_obeys, crate::proofs::Lawful::made_causes, crate::proofs::Lawful::made_locks, crate::proofs::Lawful::made_recovers))]
     pub fn new(part: P) -> Board<P>
-        ensures { result ≡ idle (P.Part.ops.renew part) }
+        ensures made { result ≡ idle (P.Part.ops.renew part) }
+        ensures obeys { Obeys P.Part.ops result }
+        ensures causes { Caused P.Part.ops result }
+        ensures locks { Locks P.Part.ops result }
+        ensures recovers { Recoverable P.Part.ops result }
     {
         let mut part = part;
         part.renew();
@@ -72,6 +84,14 @@ impl<P: Part> Board<P> {
         }
         self.part.finish(part);
         Ok(())
+    }
+
+    // Cuts the power: the part powers up again, and the wires are as on a board just made.
+    pub fn cut(&mut self, power: PowerCut)
+        ensures { self.new ≡ cut P.Part.ops self.old power }
+    {
+        self.part.cut(power);
+        self.bus = Bus::idle();
     }
 
     // The lasting byte of a cell.

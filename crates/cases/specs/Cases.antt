@@ -13,7 +13,7 @@ use Rattle.pair.specs.declared.Pair.{Pair}
 use Rattle.pair.specs.Both.{both, join}
 use Rattle.dcp.specs.Taps.{bytes, tap_in}
 use Rattle.jobfile.specs.Fields.{number_from}
-use Rattle.cases.specs.Play.{Call, finish, write, Question, cells, tap, acks, reads, play, answer}
+use Rattle.cases.specs.Play.{Call, samples, finish, start, bits_sent, write, Question, cells, tap, acks, reads, clocks, play, answer}
 
 -- A case: after some calls a question has this answer; bytes of a potentiometer of 100 taps stand for these taps; or these bytes spell a number.
 pub data Case : Type 0 where
@@ -51,6 +51,10 @@ beyond = enable ++ (write 87 (0x00 ∷ 0x40 ∷ []) ∷ [])
 abbrev pub follows : List Call
 follows = write 81 (0xf9 ∷ 0xe4 ∷ []) ∷ finish 1 ∷ []
 
+-- a read address of the memory, up to the rise of its eighth bit; the byte to come is 00h
+abbrev pub sending : List Call
+sending = samples (start ++ bits_sent 7 80 ++ (2 ∷ 3 ∷ [])) ∷ []
+
 abbrev pub cases : List Case
 cases =
     -- the register: 01h fresh, 03h after 02h, 07h after 06h, 0Bh after 0Bh and its finish
@@ -68,6 +72,8 @@ cases =
     ∷ board beyond (tap 0 0) (63 ∷ [])
     ∷ board beyond (reads 87 1) (0x3f ∷ [])
     ∷ board follows (tap 1 0) (99 ∷ [])
+    -- SDA is HIGH on clock 10, and not on clock 9 or before
+    ∷ board sending (clocks 10) (0 ∷ 0 ∷ 0 ∷ 0 ∷ 0 ∷ 0 ∷ 0 ∷ 0 ∷ 0 ∷ 1 ∷ [])
     ∷ taps (24 ∷ 56 ∷ 32 ∷ 64 ∷ 120 ∷ 96 ∷ 25 ∷ []) (24 ∷ 25 ∷ 49 ∷ 50 ∷ 75 ∷ 99 ∷ 99 ∷ [])
     ∷ spelled (0x82 ∷ 0x2c ∷ []) 300 2
     ∷ []

@@ -1,10 +1,12 @@
 -- Samples and finishes given to a board by its own step functions, and what is asked of it afterwards.
 -- A sample has SCL in bit 0 and the master's SDA in bit 1; WP and the monitors are LOW.
-use Rattle.std.specs.Prelude.{ℕ, zero, suc, ◌+◌, ◌*◌, ◌/◌, ◌%◌, ◌^◌, cond, List, [], ◌∷◌, ◌++◌}
+use Rattle.std.specs.Prelude.{ℕ, zero, suc, ◌+◌, ◌*◌, ◌/◌, ◌%◌, ◌^◌, false, cond, List, [], ◌∷◌, ◌++◌}
 use Rattle.refusals.specs.Told.{Told, ok, refused}
 use Rattle.part.specs.Ops.{Ops}
+use Rattle.part.specs.declared.levels.Levels.{Levels}
 use Rattle.board.specs.declared.board.Board.{Board}
 use Rattle.board.specs.Samples.{bit_value}
+use Rattle.board.specs.Clocks.{clock}
 use Rattle.board.specs.Engine.{sampled, finished, cell_told, tap_told}
 
 pub data Call : Type 0 where
@@ -37,12 +39,18 @@ all_sent (x ∷ xs) = sent x ++ (2 ∷ all_sent xs)
 abbrev pub write : ℕ → List ℕ → Call
 write a xs = samples (start ++ all_sent ((2 * a) ∷ xs) ++ stop)
 
--- A question: the bytes of some cells from one on, the tap of a wiper, which bytes of a write get an ACK (1 for one), or the bytes that a read gives.
+-- the lines beside the wires in every sample here
+abbrev pub quiet : Levels
+quiet = record { wp = false; v2ro = false; v3ro = false }
+
+-- A question: the bytes of some cells from one on, the tap of a wiper, which bytes of a write get an ACK (1 for one), the bytes that a read gives,
+-- or the level of SDA at each of some clocks (1 for HIGH).
 pub data Question : Type 0 where
   cells : (part from count : ℕ) → Question
   tap : (part wiper : ℕ) → Question
   acks : (address : ℕ) (bytes : List ℕ) → Question
   reads : (address count : ℕ) → Question
+  clocks : (count : ℕ) → Question
 
 module _ {S : Type 0} (ops : Ops S) where
   abbrev pub give : Board S → List ℕ → Board S
@@ -81,9 +89,14 @@ module _ {S : Type 0} (ops : Ops S) where
   bytes_read b zero = []
   bytes_read b (suc k) = let p = bits_read b 8 0 in p.1 ∷ bytes_read (give p.0 (bit_sent (ninth k))) k
 
+  abbrev pub clock_levels : Board S → ℕ → List ℕ
+  clock_levels b zero = []
+  clock_levels b (suc n) = let c = clock ops quiet b in bit_value c.bus.sda ∷ clock_levels c n
+
   -- what is asked and played stays shut: it would compute sample by sample
   unfoldable pub answer : Board S → Question → List ℕ
   answer b (cells k i n) = cells_of b k i n
   answer b (tap k j) = shown (tap_told ops b k j)
   answer b (acks a xs) = acks_of (give b start) ((2 * a) ∷ xs)
   answer b (reads a n) = bytes_read (give b (start ++ all_sent ((2 * a + 1) ∷ []))) n
+  answer b (clocks n) = clock_levels b n

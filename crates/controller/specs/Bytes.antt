@@ -12,6 +12,10 @@ sample_of l scl sda = bit_value scl + 2 * bit_value sda + (4 * bit_value l.wp + 
 abbrev pub put : Levels → Bool → Bool → Master Bool
 put l scl sda = gives (sample_of l scl sda) ended
 
+-- a clock is 01, 11 with SDA released; it reads the level of the second
+unfoldable pub clock : Levels → Master Bool
+clock l = put l false true then (λ _. put l true true)
+
 -- SCL and SDA: 01, 11, 10, 00
 unfoldable pub start : Levels → Master Bool
 start l = put l false true then (λ _. put l true true then (λ _. put l true false then (λ _. put l false false)))

@@ -5,6 +5,7 @@ pub mod guard;
 pub mod note;
 pub mod read;
 mod receiving;
+pub mod recovery;
 pub mod samples;
 mod sending;
 pub mod transfer;

@@ -1,6 +1,7 @@
 // The read job.
 ghost use Rattle.std.specs.Prelude.{◌≡◌, ℕ, ◌+◌, ◌≤◌, List, [], length};
 ghost use Rattle.refusals.specs.Told.{ok, told};
+ghost use Rattle.board.specs.Runs.{Sampled};
 ghost use Rattle.jobfile.specs.Said.{shown_read};
 ghost use Rattle.rows.specs.Rows.{items_of, Grown};
 ghost use Rattle.controller.specs.Answers.{Into, Lasts, room_of};
@@ -39,6 +40,7 @@ fn receive_all<P: Part>(
 }
 
 // Appends the bytes read to the row. A refusal leaves the row as it was, and one for want of room gives no sample.
+#[tactic(auto, using(board::proofs::Splices::sampled_same))]
 pub fn read<P: Part>(
     board: &mut Board<P>,
     lines: &Levels,
@@ -46,6 +48,7 @@ pub fn read<P: Part>(
     row: &mut Row<'_, u8>,
 ) -> Result<(), Refusal>
     ensures run { Into (run P.Part.ops (master_of lines.now (room_of row.old) (shown_read job.now)) board.old) board.new row.old row.new (told (λ x. x) result) }
+    ensures sampled { Sampled P.Part.ops board.old board.new }
     ensures count { Lasts job.now.count (run P.Part.ops (master_of lines.now (room_of row.old) (shown_read job.now)) board.old).1 }
     ensures lender { row.new.items.ghost_name ≡ row.old.items.ghost_name }
 {

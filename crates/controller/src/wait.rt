@@ -1,6 +1,7 @@
 // The wait job.
 ghost use Rattle.std.specs.Prelude.{◌≡◌, []};
 ghost use Rattle.refusals.specs.Told.{told};
+ghost use Rattle.board.specs.Runs.{Sampled};
 ghost use Rattle.jobfile.specs.Said.{shown_wait};
 ghost use Rattle.controller.specs.Master.{run};
 ghost use Rattle.controller.specs.Notes.{after_wait};
@@ -22,6 +23,7 @@ pub fn wait<P: Part>(
     note: Option<Busy>,
 ) -> (Option<Busy>, Result<(), Refusal>)
     ensures run { run P.Part.ops (master_of lines.old 0 (shown_wait job.now)) board.old ≡ (board.new, told (λ _. []) result.1) }
+    ensures sampled { Sampled P.Part.ops board.old board.new }
     ensures lines { lines.new ≡ lines.old }
     ensures note { result.0 ≡ after_wait job.now.address (told (λ _. []) result.1) note }
 {

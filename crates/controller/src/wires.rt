@@ -12,7 +12,7 @@ use part::levels::Levels;
 
 // One sample; answers SDA on the wire.
 #[tactic(auto, using(crate::proofs::Runs::put_sample))]
-fn put<P: Part>(board: &mut Board<P>, levels: &Levels, scl: bool, sda: bool) -> bool
+pub(super) fn put<P: Part>(board: &mut Board<P>, levels: &Levels, scl: bool, sda: bool) -> bool
     ensures { run P.Part.ops (put levels.now scl sda) board.old ≡ (board.new, result) }
 {
     let levels = *levels;

@@ -1,6 +1,7 @@
 // The write job.
 ghost use Rattle.std.specs.Prelude.{◌≡◌, []};
 ghost use Rattle.refusals.specs.Told.{told};
+ghost use Rattle.board.specs.Runs.{Sampled};
 ghost use Rattle.jobfile.specs.Said.{shown_write};
 ghost use Rattle.controller.specs.Master.{run};
 ghost use Rattle.controller.specs.Notes.{Noted};
@@ -21,6 +22,7 @@ pub fn write<P: Part>(
     job: &Write<'_>,
 ) -> Result<Busy, Refusal>
     ensures run { run P.Part.ops (master_of lines.old 0 (shown_write job.now)) board.old ≡ (board.new, told (λ _. []) result) }
+    ensures sampled { Sampled P.Part.ops board.old board.new }
     ensures lines { lines.new ≡ lines.old }
     ensures note { Noted job.now.address result }
 {

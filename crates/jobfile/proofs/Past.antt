@@ -2,7 +2,7 @@
 use Rattle.std.proofs.Common.{ℕ, ◌+◌, ◌≤◌, Bool, true, false, cond, List, length, arith, drop, ltb, eqb, slice_index}
 use Rattle.refusals.specs.Told.{Told, ok, refused, and_then}
 use Rattle.jobfile.specs.Fields.{number_from, number_at, field_at, counted_at}
-use Rattle.jobfile.specs.Jobs.{write_at, read_at, wait_at, samples_at, job_as, job_at}
+use Rattle.jobfile.specs.Jobs.{write_at, read_at, wait_at, cut_at, samples_at, job_as, job_at}
 
 -- an offset that comes with an answer is no earlier than this one
 abbrev pub Past : {A : Type 0} → ℕ → Told (A × ℕ) → Type 0
@@ -49,6 +49,9 @@ module _ (file : List ℕ) (from : ℕ) where
       then_past from (field_at file at 0 127) _ (field_past at 0 127 h) (λ a k.
       then_past from (field_at file a.1 1 1000) _ (field_past a.1 1 1000 k) (λ p l. l))
 
+  cut_past : (at : ℕ) → from ≤ at → Past from (cut_at file at)
+  cut_past at h = then_past from (field_at file at 0 65535) _ (field_past at 0 65535 h) (λ mask k. k)
+
   samples_past : (at : ℕ) → from ≤ at → Past from (samples_at file at)
   samples_past at h =
       then_past from (counted_at file at 255) _ (counted_past at 255 h) (λ p l. let m : from ≤ p.1 + length p.0 = omega arith in m)
@@ -59,7 +62,9 @@ module _ (file : List ℕ) (from : ℕ) where
       either_past from (eqb kind 2) _ _ (read_past at h) (
       either_past from (eqb kind 3) _ _ (wait_past at h) (
       either_past from (eqb kind 4) _ _ (then_past from (number_at file at) _ (number_past at h) (λ p k. k)) (
-      either_past from (eqb kind 7) _ _ (samples_past at h) tt))))
+      either_past from (eqb kind 5) _ _ (cut_past at h) (
+      either_past from (eqb kind 6) _ _ h (
+      either_past from (eqb kind 7) _ _ (samples_past at h) tt))))))
 
 pub job_past : (file : List ℕ) (at : ℕ) → Past (at + 1) (job_at file at)
 job_past file at =

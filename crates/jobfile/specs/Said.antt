@@ -1,6 +1,7 @@
 -- What a job says, by values. One beyond a limit is refused with 7.
 use Rattle.std.specs.Prelude.{ℕ, cond, List, length, nat_lt}
 use Rattle.refusals.specs.Told.{Told, ok, refused}
+use Rattle.jobfile.specs.declared.cut.Cut.{Cut}
 use Rattle.jobfile.specs.declared.finish.Finish.{Finish}
 use Rattle.jobfile.specs.declared.read.Read.{Read}
 use Rattle.jobfile.specs.declared.samples.Samples.{Samples}
@@ -13,6 +14,8 @@ pub data Said : Type 0 where
   read : (address : ℕ) (aim : List ℕ) (at : ℕ) (count : ℕ) → Said
   wait : (address : ℕ) (polls : ℕ) → Said
   finish : (part : ℕ) → Said
+  cut : (mask : ℕ) → Said
+  recover : Said
   samples : (bytes : List ℕ) (at : ℕ) → Said
 
 -- What a record says: its fields, which its ghost fields hold within the limits.
@@ -27,6 +30,9 @@ shown_wait job = wait job.address job.polls
 
 abbrev pub shown_finish : Finish → Said
 shown_finish job = finish job.part
+
+abbrev pub shown_cut : Cut → Said
+shown_cut job = cut job.mask
 
 abbrev pub shown_samples : Samples → Said
 shown_samples job = samples job.bytes.now job.at

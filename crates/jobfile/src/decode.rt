@@ -1,10 +1,11 @@
 // Each kind of job. Its fields are tested in the order of the file.
 ghost use Rattle.std.specs.Prelude.{◌≡◌};
 ghost use Rattle.refusals.specs.Told.{told};
-ghost use Rattle.jobfile.specs.Jobs.{write_at, read_at, wait_at, finish_at, samples_at, job_as, said};
+ghost use Rattle.jobfile.specs.Jobs.{write_at, read_at, wait_at, finish_at, cut_at, samples_at, job_as, said};
 ghost use Rattle.jobfile.specs.Kinds.{kind_byte};
 ghost use Rattle.jobfile.specs.Reading.{ReadOn};
 
+use crate::cut::Cut;
 use crate::fields::Fields;
 use crate::finish::Finish;
 use crate::job::Job;
@@ -51,6 +52,14 @@ fn finish_job<'a>(fields: &mut Fields<'a>) -> Result<Job<'a>, Refusal>
     Ok(Job::Finish(Finish { part }))
 }
 
+fn cut_job<'a>(fields: &mut Fields<'a>) -> Result<Job<'a>, Refusal>
+    ensures value { told (λ job. (said job, fields.new.at)) result ≡ cut_at fields.old.file.now fields.old.at }
+    ensures onward { ReadOn fields.old fields.new }
+{
+    let mask = fields.number_within(0, 65535)? as u16;
+    Ok(Job::Cut(Cut { mask }))
+}
+
 fn samples_job<'a>(fields: &mut Fields<'a>) -> Result<Job<'a>, Refusal>
     ensures value { told (λ job. (said job, fields.new.at)) result ≡ samples_at fields.old.file.now fields.old.at }
     ensures onward { ReadOn fields.old fields.new }
@@ -69,6 +78,8 @@ pub(crate) fn job_of<'a>(kind: Kind, fields: &mut Fields<'a>) -> Result<Job<'a>,
         Kind::Read => read_job(fields),
         Kind::Wait => wait_job(fields),
         Kind::Finish => finish_job(fields),
+        Kind::Cut => cut_job(fields),
+        Kind::Recover => Ok(Job::Recover),
         Kind::Samples => samples_job(fields),
     }
 }

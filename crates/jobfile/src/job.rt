@@ -1,3 +1,4 @@
+use crate::cut::Cut;
 use crate::finish::Finish;
 use crate::read::Read;
 use crate::samples::Samples;
@@ -12,5 +13,7 @@ pub enum Job<'a> {
     Read(Read<'a>),
     Wait(Wait),
     Finish(Finish),
+    Cut(Cut),
+    Recover,
     Samples(Samples<'a>),
 }

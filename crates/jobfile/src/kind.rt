@@ -10,6 +10,8 @@ pub(crate) enum Kind {
     Read,
     Wait,
     Finish,
+    Cut,
+    Recover,
     Samples,
 }
 
@@ -25,6 +27,8 @@ impl TryFrom<u8> for Kind {
             2 => Ok(Kind::Read),
             3 => Ok(Kind::Wait),
             4 => Ok(Kind::Finish),
+            5 => Ok(Kind::Cut),
+            6 => Ok(Kind::Recover),
             7 => Ok(Kind::Samples),
             _ => Err(Refusal::UnknownKind),
         }

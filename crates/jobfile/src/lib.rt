@@ -6,6 +6,7 @@ ghost use Rattle.refusals.specs.Told.{told};
 ghost use Rattle.jobfile.specs.Jobs.{job_at, said_next};
 ghost use Rattle.jobfile.specs.Offsets.{Onward};
 
+pub mod cut;
 mod decode;
 mod fields;
 pub mod finish;

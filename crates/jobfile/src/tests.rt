@@ -38,3 +38,17 @@ fn order(rt: HostRuntime) {
     assert_eq!(rt; refusal(&[1, 0x81, 0]), 7);
     assert_eq!(rt; refusal(&[1, 0x7f, 1]), 5);
 }
+
+#[test]
+fn masks(rt: HostRuntime) {
+    assert_eq!(rt; refusal(&[5, 0x83, 0xff, 0x7f]), 0);
+    assert_eq!(rt; refusal(&[5, 0x84, 0x80, 0]), 7);
+    assert_eq!(rt; refusal(&[5]), 5);
+}
+
+#[test]
+fn kinds_are_1_to_7(rt: HostRuntime) {
+    assert_eq!(rt; refusal(&[0]), 6);
+    assert_eq!(rt; refusal(&[6]), 0);
+    assert_eq!(rt; refusal(&[8]), 6);
+}

@@ -1,11 +1,12 @@
 -- What one job of a file leaves, from what its run leaves.
-use Rattle.std.proofs.Common.{◌≡◌, ℕ, ◌≤◌, Bool, true, false, cond, List, [], length, Ok, Err, Result, sym, refl, ap, ◌∙◌, subst, arith}
+use Rattle.std.proofs.Common.{◌≡◌, ℕ, ◌≤◌, Bool, true, false, cond, List, [], ◌∷◌, length, Ok, Err, Result, sym, refl, ap, ◌∙◌, subst, arith}
 use Rattle.std.proofs.lemmas.Bool.{le-leb}
 use Rattle.refusals.specs.declared.Refusal.{Refusal}
 use Rattle.refusals.specs.Told.{Told, ok, refused, told}
 use Rattle.part.specs.Ops.{Ops}
 use Rattle.board.specs.declared.board.Board.{Board}
 use Rattle.rows.specs.declared.row.Row.{Row}
+use Rattle.rows.specs.Rows.{Grown}
 use Rattle.rows.proofs.Growing.{grown_none}
 use Rattle.controller.specs.Answers.{Answered, Into, Lasts, plain}
 use Rattle.controller.specs.Master.{Master, ended, run}
@@ -29,6 +30,11 @@ module _ {S : Type 0} where
 
   pub same_into : (z z' : Board S × Told (List ℕ)) (b : Board S) (before after : Row ℕ) (t : Told (Unit {0})) → z ≡ z' → Into z b before after t → Into z' b before after t
   same_into z z' b before after t e h = subst (λ y. Into y b before after t) e h
+
+-- a job that answers one byte leaves it in the list
+pub one_byte : {S : Type 0} (z : Board S × Told (List ℕ)) (b : Board S) (x : ℕ) (before after : Row ℕ) → z ≡ (b, ok (x ∷ [])) → Grown before (x ∷ []) after → Into z b before after (ok tt) × Lasts 1 z.1
+one_byte z b x before after e h =
+    (subst (λ y. Into y b before after (ok tt)) (sym e) (record { board_is = refl; row_is = h; answer_is = refl }), subst (λ y. Lasts 1 y.1) (sym e) refl)
 
 pub lasts_within : (n : ℕ) (t : Told (List ℕ)) → Lasts n t → Within n t
 lasts_within n (ok xs) h = omega arith

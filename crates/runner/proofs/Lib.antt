@@ -2,3 +2,4 @@ pub mod Answering
 pub mod Hexes
 pub mod Listing
 pub mod Progress
+pub mod Reaching

@@ -4,8 +4,8 @@ use Rattle.refusals.specs.Told.{Told, ok, refused}
 use Rattle.part.specs.Ops.{Ops}
 use Rattle.part.specs.declared.levels.Levels.{Levels}
 use Rattle.board.specs.declared.board.Board.{Board}
-use Rattle.board.specs.Engine.{finished, finish_told}
-use Rattle.jobfile.specs.Said.{Said, write, read, wait, finish, samples}
+use Rattle.board.specs.Engine.{finished, finish_told, cut as board-cut}
+use Rattle.jobfile.specs.Said.{Said, write, read, wait, finish, cut, recover, samples}
 use Rattle.controller.specs.Master.{run}
 use Rattle.controller.specs.Said.{master_of}
 use Rattle.jobfile.specs.FileJobs.{FileJob}
@@ -32,12 +32,14 @@ abbrev pub then_rest : {B A : Type 0} → B × A → (B → B × List A) → B �
 then_rest ran rest = ((rest ran.0).0, ran.1 ∷ (rest ran.0).1)
 
 module _ {S : Type 0} (ops : Ops S) (l : Levels) where
-  -- a finish is a call of the board; every other job is a master's run, with room for just its bytes
+  -- a finish and a power cut are calls of the board; every other job is a master's run, with room for just its bytes
   unfoldable pub job_run : Said → Board S → Board S × Told (List ℕ)
   job_run (write a xs at) b = run ops (master_of l 0 (write a xs at)) b
   job_run (read a aim at n) b = run ops (master_of l n (read a aim at n)) b
   job_run (wait a n) b = run ops (master_of l 0 (wait a n)) b
   job_run (finish k) b = (finished ops b k, no_bytes (finish_told ops b k))
+  job_run (cut mask) b = (board-cut ops b (record { mask = mask }), ok [])
+  job_run recover b = run ops (master_of l 1 recover) b
   job_run (samples xs at) b = run ops (master_of l (length xs) (samples xs at)) b
 
   -- a job as decoded, at its offset: one that cannot be decoded changes nothing, and its place is that offset

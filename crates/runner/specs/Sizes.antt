@@ -1,7 +1,7 @@
 -- How many bytes jobs answer where they are accepted.
 use Rattle.std.specs.Prelude.{ℕ, ◌+◌, List, [], ◌∷◌, length}
 use Rattle.refusals.specs.Told.{Told, ok, refused}
-use Rattle.jobfile.specs.Said.{Said, write, read, wait, finish, samples}
+use Rattle.jobfile.specs.Said.{Said, write, read, wait, finish, cut, recover, samples}
 use Rattle.jobfile.specs.FileJobs.{FileJob}
 
 abbrev pub answers : Said → ℕ
@@ -9,6 +9,8 @@ answers (write a xs at) = 0
 answers (read a aim at n) = n
 answers (wait a n) = 0
 answers (finish k) = 0
+answers (cut mask) = 0
+answers recover = 1
 answers (samples xs at) = length xs
 
 abbrev pub job_answers : Told Said → ℕ

@@ -19,6 +19,7 @@ pub fn answers(job: &Job<'_>) -> usize
 {
     match job {
         Job::Read(read) => usize::from(read.count()),
+        Job::Recover => 1,
         Job::Samples(samples) => samples.bytes().len(),
         _ => 0,
     }

@@ -1,12 +1,14 @@
 // The jobs of a file, run one after another on a board.
 ghost use Rattle.std.specs.Prelude.{◌≡◌, ℕ, ◌+◌, ◌<◌, ◌≤◌, [], ◌∷◌, length};
-ghost use Rattle.refusals.specs.Told.{told};
+ghost use Rattle.refusals.specs.Told.{ok, told};
 ghost use Rattle.jobfile.specs.Said.{shown_write};
 ghost use Rattle.jobfile.specs.Jobs.{said};
 ghost use Rattle.jobfile.specs.FileJobs.{file_jobs};
 ghost use Rattle.rows.specs.Rows.{items_of, row_of, first_with, Grown};
-ghost use Rattle.controller.specs.Answers.{Into, room_of};
+ghost use Rattle.board.specs.Runs.{Reaches};
+ghost use Rattle.controller.specs.Answers.{Into, Lasts, room_of};
 ghost use Rattle.controller.specs.Master.{run};
+ghost use Rattle.controller.specs.Recovery.{recovering};
 ghost use Rattle.controller.specs.Said.{master_of};
 ghost use Rattle.runner.specs.Sizes.{answers, job_answers, all_answers};
 ghost use Rattle.runner.specs.Results.{Listed, seen, seen_between, fits, Filed, FileRun};
@@ -17,6 +19,7 @@ use super::room::room_for;
 use board::board::Board;
 use controller::note::Busy;
 use controller::read::read;
+use controller::recovery::recover;
 use controller::samples::samples;
 use controller::wait::wait;
 use controller::write::write;
@@ -25,6 +28,7 @@ use jobfile::jobs::Jobs;
 use jobfile::write::Write;
 use part::Part;
 use part::levels::Levels;
+use part::power::PowerCut;
 use refusals::Refusal;
 use rows::row::Row;
 
@@ -54,6 +58,17 @@ fn run_write<P: Part>(
     }
 }
 
+// A recovery answers its number of clocks as one byte.
+fn run_recovery<P: Part>(board: &mut Board<P>, lines: &Levels, bytes: &mut Row<'_, u8>)
+    requires { 1 ≤ room_of bytes.old }
+    ensures run { Into (run P.Part.ops (recovering lines.now) board.old) board.new bytes.old bytes.new (ok tt) }
+    ensures count { Lasts 1 (run P.Part.ops (recovering lines.now) board.old).1 }
+    ensures lender { bytes.new.items.ghost_name ≡ bytes.old.items.ghost_name }
+{
+    let clocks = recover(board, lines);
+    let _ = bytes.append(clocks);
+}
+
 // Runs a job whose bytes find room in the list.
 fn run_job<P: Part>(
     board: &mut Board<P>,
@@ -73,6 +88,14 @@ fn run_job<P: Part>(
         Job::Read(job) => (note, read(board, lines, job, bytes)),
         Job::Wait(job) => wait(board, lines, job, note),
         Job::Finish(job) => (note, board.finish(job.part)),
+        Job::Cut(job) => {
+            board.cut(PowerCut { mask: job.mask });
+            (note, Ok(()))
+        }
+        Job::Recover => {
+            run_recovery(board, lines, bytes);
+            (note, Ok(()))
+        }
         Job::Samples(job) => (note, samples(board, job, bytes)),
     }
 }
@@ -153,6 +176,7 @@ fn run_jobs<P: Part>(
 
 // Runs a whole job file. Its results are appended to the row and the answered bytes to the byte list; where either is too short
 // for all of them nothing is run.
+#[tactic(auto, using(board::proofs::Splices::reaches_same, crate::proofs::Reaching::file_reaches))]
 pub fn run_file<P: Part>(
     board: &mut Board<P>,
     lines: &mut Levels,
@@ -161,6 +185,7 @@ pub fn run_file<P: Part>(
     bytes: &mut Row<'_, u8>,
 ) -> Result<(), Refusal>
     ensures run { FileRun (fits (file_jobs file.now) results.old bytes.old) (ran P.Part.ops lines.old (file_jobs file.now) board.old) board.old board.new results.old results.new bytes.old bytes.new (told (λ x. x) result) }
+    ensures reaches { Reaches P.Part.ops board.old board.new }
     ensures lines { lines.new ≡ lines.old }
     ensures results_lender { results.new.items.ghost_name ≡ results.old.items.ghost_name }
     ensures bytes_lender { bytes.new.items.ghost_name ≡ bytes.old.items.ghost_name }

@@ -56,6 +56,29 @@ fn a_bad_job_ends_the_run(rt: HostRuntime) -> Result<(), Fail> {
     Ok(())
 }
 
+// A recovery answers one byte, and wants room for it; a power cut answers none.
+#[test]
+fn a_recovery_answers_a_byte(rt: HostRuntime) -> Result<(), Fail> {
+    let file = [6, 5, 0];
+    let mut board = fresh_board();
+    let mut lines = quiet_lines();
+    let mut list = [BLANK; 2];
+    let mut bytes = [0u8; 1];
+    {
+        let mut results = Row::new(&mut list);
+        let mut none = Row::new(&mut []);
+        let refused = run_file(&mut board, &mut lines, &file, &mut results, &mut none);
+        assert_eq!(rt; refused, Err(Refusal::NoRoom));
+        let mut answered = Row::new(&mut bytes);
+        run_file(&mut board, &mut lines, &file, &mut results, &mut answered)?;
+    }
+    let text = line(rt.alloc(), &list[0], &bytes)?;
+    assert_eq!(rt; text.as_str(), "1 ok 01");
+    let text = line(rt.alloc(), &list[1], &bytes)?;
+    assert_eq!(rt; text.as_str(), "2 ok -");
+    Ok(())
+}
+
 // The first line of a file whose first job cannot be decoded; the board must stay as it was made.
 fn undecoded(rt: &(impl Abort + AllocGlobal), file: &[u8]) -> Result<String, Fail> {
     let mut board = fresh_board();
@@ -75,7 +98,8 @@ fn undecoded(rt: &(impl Abort + AllocGlobal), file: &[u8]) -> Result<String, Fai
 #[test]
 fn a_job_not_decoded_changes_nothing(rt: HostRuntime) -> Result<(), Fail> {
     assert_eq!(rt; undecoded(&rt, &[1, 0x51, 2, 0x10])?.as_str(), "1 no 5 0");
-    assert_eq!(rt; undecoded(&rt, &[5, 4])?.as_str(), "1 no 6 0");
+    assert_eq!(rt; undecoded(&rt, &[8, 4])?.as_str(), "1 no 6 0");
     assert_eq!(rt; undecoded(&rt, &[1, 0x81, 0])?.as_str(), "1 no 7 0");
+    assert_eq!(rt; undecoded(&rt, &[5, 0x84, 0x80, 0])?.as_str(), "1 no 7 0");
     Ok(())
 }

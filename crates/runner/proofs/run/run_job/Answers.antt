@@ -1,4 +1,5 @@
-use Rattle.std.proofs.Common.{ℕ, ◌≤◌, List, length, sym, refl, ap, ◌∙◌, subst}
+use Rattle.std.proofs.Common.{ℕ, ◌≤◌, List, [], Ok, length, sym, refl, ap, ◌∙◌, subst}
+use Rattle.refusals.specs.Told.{ok}
 use Rattle.jobfile.specs.Jobs.{said}
 use Rattle.controller.specs.Answers.{room_of}
 use Rattle.controller.specs.Jobs.{reading}
@@ -39,6 +40,25 @@ unfolding job_run
 returns-in-Finish g c =
     let ran = ap (λ j. job_run g.P.Part.ops c.args.lines.now (said j) c.args.board.now) c.in-Finish.is ∙ called _ _ _ c.finish.result c.finish.ensures.after c.finish.ensures.answer in
     record { run = without_bytes _ _ c.finish.result c.args.bytes.now ran; within = none_within _ _ _ c.finish.result ran; lines = refl; lender = refl }
+
+pub returns-in-Cut : goal.returns-in-Cut
+unfolding job_run
+returns-in-Cut g c =
+    let board = ap (λ b. (b, ok [])) (sym c.cut.ensures) in
+    let ran = ap (λ j. job_run g.P.Part.ops c.args.lines.now (said j) c.args.board.now) c.in-Cut.is ∙ board in
+    record { run = without_bytes _ _ (Ok tt) c.args.bytes.now ran; within = none_within _ _ _ (Ok tt) ran; lines = refl; lender = refl }
+
+pub returns-in-Recover : goal.returns-in-Recover
+unfolding job_run
+returns-in-Recover g c =
+    let job = ap (λ j. job_run g.P.Part.ops c.args.lines.now (said j) c.args.board.now) (sym c.in-Recover.is) in
+    let most = lasts_within 1 _ c.run_recovery.ensures.count in
+    record {
+      run = same_into _ _ _ _ _ _ job c.run_recovery.ensures.run;
+      within = subst (λ j. Within (answers (said j)) (job_run g.P.Part.ops c.args.lines.now (said j) c.args.board.now).1) (sym c.in-Recover.is) most;
+      lines = refl;
+      lender = c.run_recovery.ensures.lender;
+    }
 
 pub returns-in-Samples : goal.returns-in-Samples
 unfolding job_run

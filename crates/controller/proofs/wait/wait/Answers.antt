@@ -1,0 +1,9 @@
+use Rattle.controller.specs.Jobs.{waiting, lowered}
+use Rattle.controller.proofs.Sampling.{job_sampled}
+use Rattle.controller.proofs.wait.wait.Goals as goal
+
+pub returns-then-is_ok-clause-sampled : goal.returns-then-is_ok-clause-sampled
+returns-then-is_ok-clause-sampled g c = job_sampled g.P.Part.ops (waiting (lowered c.args.lines.now) c.address.result c.polls.result) c.args.board.now _ _ c.poll-answer.ensures.run
+
+pub returns-else-is_ok-clause-sampled : goal.returns-else-is_ok-clause-sampled
+returns-else-is_ok-clause-sampled g c = job_sampled g.P.Part.ops (waiting (lowered c.args.lines.now) c.address.result c.polls.result) c.args.board.now _ _ c.poll-answer.ensures.run
