@@ -1,7 +1,7 @@
 -- A list that is filled: nothing at first, then one item after another.
-use Rattle.std.proofs.Common.{◌≡◌, ℕ, ◌+◌, ◌<◌, ◌≤◌, List, [], ◌∷◌, ◌++◌, length, take, set, sym, refl, ap, ◌∙◌, append_assoc, add-zero, arith, length-append}
+use Rattle.std.proofs.Common.{◌≡◌, ℕ, ◌+◌, ◌<◌, ◌≤◌, List, [], ◌∷◌, ◌++◌, length, get_or, take, drop, set, sym, refl, ap, ◌∙◌, append_assoc, add-zero, arith, length-append}
 use lib.Seq.{paste}
-use Rattle.std.proofs.lemmas.List.{take-append-drop}
+use Rattle.std.proofs.lemmas.List.{take-append-drop, length-take-le, length_push, set_at, get_or_at}
 use Rattle.std.proofs.lemmas.List.Edits.{paste_all, paste-paste, length-paste, sets-eq}
 use Rattle.rows.specs.Filled.{filled}
 
@@ -32,3 +32,28 @@ module _ {A : Type 0} (items : List A) (n : ℕ) (xs : List A) where
       let same = length-filled items n xs (omega arith) in
       let one : set (filled items n xs) (n + length xs) x ≡ filled (filled items n xs) (n + length xs) (x ∷ []) = sets-eq (x ∷ []) (filled items n xs) (n + length xs) (omega arith) ∙ append_assoc (take (n + length xs) (filled items n xs)) (x ∷ []) _ in
       one ∙ filled-filled (x ∷ []) (omega arith)
+
+-- the last of the items written, in the place where it stands
+module _ {A : Type 0} (items : List A) (n : ℕ) (xs : List A) (h : n ≤ length items) where
+  front : List A
+  front = take n items ++ xs
+
+  split : (x : A) → filled items n (xs ++ (x ∷ [])) ≡ front ++ (x ∷ drop (n + (length xs + 1)) items)
+  unfolding front
+  split x =
+      ap (λ m. take n items ++ ((xs ++ (x ∷ [])) ++ drop (n + m) items)) (length_push xs x)
+      ∙ ap (λ ys. take n items ++ ys) (append_assoc xs (x ∷ []) (drop (n + (length xs + 1)) items))
+      ∙ sym (append_assoc (take n items) xs (x ∷ drop (n + (length xs + 1)) items))
+
+  place : length front ≡ n + length xs
+  unfolding front
+  place = length-append (take n items) xs ∙ ap (λ m. m + length xs) (length-take-le n items h)
+
+  pub filled_other : (x y : A) → set (filled items n (xs ++ (x ∷ []))) (n + length xs) y ≡ filled items n (xs ++ (y ∷ []))
+  filled_other x y =
+      ap (λ ys. set ys (n + length xs) y) (split x)
+      ∙ set_at front x (drop (n + (length xs + 1)) items) y (n + length xs) place
+      ∙ sym (split y)
+
+  pub filled_last : (x d : A) → get_or (filled items n (xs ++ (x ∷ []))) (n + length xs) d ≡ x
+  filled_last x d = ap (λ ys. get_or ys (n + length xs) d) (split x) ∙ get_or_at front x (drop (n + (length xs + 1)) items) d (n + length xs) place

@@ -17,6 +17,10 @@ row_of row = take row.count (items_of row)
 abbrev pub roomy : {A : Type 0} → Row A → Bool
 roomy row = nat_lt row.count (length (items_of row))
 
+-- no item is in the row
+abbrev pub holds_none : {A : Type 0} → Row A → Bool
+holds_none row = row.count == 0
+
 -- what an append answers where there is room, and where there is none
 abbrev pub appends : Bool → Told (Unit {0})
 appends true = ok tt

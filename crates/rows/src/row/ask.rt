@@ -32,6 +32,12 @@ impl<'a, T> Row<'a, T> {
         self.items().get(n)
     }
 
+    pub fn last(&self) -> Option<&T>
+        ensures { option_map (λ x. x.now) result ≡ slice_get (row_of self.now) (self.now.count - 1) }
+    {
+        self.items().last()
+    }
+
     // The place of the first item with the key.
     pub fn find(&self, key: usize) -> Option<usize>
     where
