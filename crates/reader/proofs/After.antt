@@ -1,0 +1,113 @@
+-- The reader and its rows after some samples of a recording, and after one more.
+use Rattle.std.proofs.Common.{◌≡◌, ℕ, zero, suc, ◌+◌, ◌^◌, ◌<◌, ◌≤◌, Bool, true, false, List, [], ◌∷◌, ◌++◌, length, get_or, Some, None, Option, option_map, sym, refl, ap, ◌∙◌, arith, add-zero, add-suc, subst, ◌-◌}
+use Rattle.std.proofs.lemmas.Option.{none-some}
+use Rattle.std.proofs.lemmas.List.{length_push}
+use Rattle.rows.specs.declared.row.Row.{Row}
+use Rattle.rows.specs.Rows.{items_of, Grown}
+use Rattle.rows.proofs.Growing.{length_grown as row_length}
+use Rattle.board.specs.Samples.{bit_value}
+use Rattle.board.specs.Wires.{Edge, steady, started, stopped, rose, fell, edge, Transfer as Open, transfer, risen, is_clean, next}
+use Rattle.reader.specs.declared.transfer.Transfer.{Transfer}
+use Rattle.reader.specs.declared.wires.Edge.{Edge as Seen}
+use Rattle.reader.specs.declared.wires.Wires.{Wires}
+use Rattle.reader.specs.Kept.{kept_of, edge_of, starts, AllSmall, wires_after}
+use Rattle.reader.specs.Read.{transfers}
+use Rattle.reader.specs.Steps.{reader_after, stepped, HasLast}
+use Rattle.reader.specs.Reading.{opened, prolonged, ended, with_last, going_on, ending, grown, rows_after}
+use Rattle.reader.specs.Recording.{scl_after, sda_after, edge_at, open_after}
+use Rattle.reader.proofs.Keeping.{next_kept, few, few_none, few_next, small_kept}
+
+pub reader_more : (xs : List ℕ) (n : ℕ) → stepped (get_or xs n 0) (reader_after xs n) ≡ reader_after xs (suc n)
+reader_more xs n = ap (λ o. record { wires = wires_after xs (suc n); opened = o }) (next_kept (scl_after xs n) (scl_after xs (suc n)) (sda_after xs n) (sda_after xs (suc n)) (open_after xs n))
+
+-- a transfer that is open has a record
+last_changed : (f : Transfer → Transfer) (t : Open) (r : Transfer) (rows : List Transfer) → HasLast (Some t) (with_last f (r ∷ rows))
+last_changed f t r [] = tt
+last_changed f t r (s ∷ rows) = tt
+
+last_pushed : (t : Open) (r : Transfer) (rows : List Transfer) → HasLast (Some t) (rows ++ (r ∷ []))
+last_pushed t r [] = tt
+last_pushed t r (s ∷ rows) = tt
+
+last_on : (n : ℕ) (o u : Option Open) (rows : List Transfer) → ((u ≡ None) → o ≡ None) → ((o ≡ None) → u ≡ None) → HasLast o rows → HasLast u (going_on n o u rows)
+last_on n o None rows h k m = tt
+last_on n None (Some u) rows h k m = absurd (none-some _ (sym (k refl)))
+last_on n (Some t) (Some u) [] h k m = absurd m
+last_on n (Some t) (Some u) (r ∷ rows) h k m = last_changed (prolonged n u) u r rows
+
+last_next : (e : Edge) (pulled : Bool) (n : ℕ) (o : Option Open) (rows : List Transfer) → HasLast o rows → HasLast (next e pulled o) (grown e n o (next e pulled o) rows)
+last_next steady pulled n o rows m = last_on n o o rows (λ h. h) (λ h. h) m
+last_next started pulled n o rows m = last_pushed (transfer [] []) (opened n) (ending n o (λ t. false) rows)
+last_next stopped pulled n o rows m = tt
+last_next (rose bit) pulled n None rows m = tt
+last_next (rose bit) pulled n (Some t) [] m = absurd m
+last_next (rose bit) pulled n (Some t) (r ∷ rows) m = last_changed (prolonged n (risen bit pulled t)) (risen bit pulled t) r rows
+last_next fell pulled n o rows m = last_on n o o rows (λ h. h) (λ h. h) m
+
+pub has_last : (xs : List ℕ) (n : ℕ) → HasLast (open_after xs n) (rows_after xs n)
+has_last xs zero = tt
+has_last xs (suc n) = last_next (edge_at xs n) _ n (open_after xs n) (rows_after xs n) (has_last xs n)
+
+-- each START adds a record, and nothing else does
+length_last : (f : Transfer → Transfer) (rows : List Transfer) → length (with_last f rows) ≡ length rows
+length_last f [] = refl
+length_last f (r ∷ []) = refl
+length_last f (r ∷ (s ∷ rows)) = ap suc (length_last f (s ∷ rows))
+
+length_on : (n : ℕ) (o u : Option Open) (rows : List Transfer) → length (going_on n o u rows) ≡ length rows + 0
+length_on n None u rows = sym (add-zero _)
+length_on n (Some t) None rows = sym (add-zero _)
+length_on n (Some t) (Some u) rows = length_last (prolonged n u) rows ∙ sym (add-zero _)
+
+length_end : (n : ℕ) (o : Option Open) (clean : Open → Bool) (rows : List Transfer) → length (ending n o clean rows) ≡ length rows
+length_end n None clean rows = refl
+length_end n (Some t) clean rows = length_last (ended n (clean t)) rows
+
+pub length_grown : (e : Edge) (n : ℕ) (o u : Option Open) (rows : List Transfer) → length (grown e n o u rows) ≡ length rows + bit_value (starts e)
+length_grown steady n o u rows = length_on n o u rows
+length_grown started n o u rows = length_push (ending n o (λ t. false) rows) (opened n) ∙ ap (λ m. m + 1) (length_end n o (λ t. false) rows)
+length_grown stopped n o u rows = length_end n o is_clean rows ∙ sym (add-zero _)
+length_grown (rose bit) n o u rows = length_on n o u rows
+length_grown fell n o u rows = length_on n o u rows
+
+pub one_more : (xs : List ℕ) (n : ℕ) → length (rows_after xs (suc n)) ≡ length (rows_after xs n) + bit_value (starts (edge_at xs n))
+one_more xs n = length_grown (edge_at xs n) n (open_after xs n) (open_after xs (suc n)) (rows_after xs n)
+
+bit_small : (b : Bool) → bit_value b ≤ 1
+bit_small true = omega arith
+bit_small false = omega arith
+
+pub few_rows : (xs : List ℕ) (n : ℕ) → length (rows_after xs n) ≤ n
+few_rows xs zero = omega arith
+few_rows xs (suc n) = omega (arith, one_more xs n, bit_small (starts (edge_at xs n)), few_rows xs n)
+
+pub more_rows : (xs : List ℕ) (n k : ℕ) → length (rows_after xs n) ≤ length (rows_after xs (n + k))
+more_rows xs n zero = rw (add-zero n) (omega arith)
+more_rows xs n (suc k) = rw (add-suc n k) (omega (arith, one_more xs (n + k), more_rows xs n k))
+
+pub rows_up : (xs : List ℕ) (n m : ℕ) → n ≤ m → length (rows_after xs n) ≤ length (rows_after xs m)
+rows_up xs n m h = subst (λ k. length (rows_after xs n) ≤ length (rows_after xs k)) (omega (arith, h)) (more_rows xs n (m - n))
+
+-- counting them
+pub started_at : (xs : List ℕ) (n : ℕ) (v w : Wires) (e : Seen) (b : Bool) → v ≡ wires_after xs n → w ≡ wires_after xs (suc n) → edge_of e ≡ edge v.scl w.scl v.sda w.sda → b ≡ starts (edge_of e) → starts (edge_at xs n) ≡ b
+started_at xs n v w e b h k f g =
+    sym (g ∙ ap starts (f ∙ ap (λ (u : Wires). edge u.scl w.scl u.sda w.sda) h ∙ ap (λ (u : Wires). edge (scl_after xs n) u.scl (sda_after xs n) u.sda) k))
+
+pub count_more : (xs : List ℕ) (n c d : ℕ) (b : Bool) → starts (edge_at xs n) ≡ b → c ≡ length (rows_after xs n) → d ≡ c + bit_value b → d ≡ length (rows_after xs (suc n))
+count_more xs n c d b e f g =
+    g ∙ ap (λ m. m + bit_value b) f ∙ ap (λ s. length (rows_after xs n) + bit_value s) (sym e) ∙ sym (one_more xs n)
+
+-- a row that takes all transfers takes the next
+pub room_left : (xs : List ℕ) (n : ℕ) (a b : Row Transfer) → n < length xs → a.count + length (transfers xs) ≤ length (items_of a) → Grown a (rows_after xs n) b → starts (edge_at xs n) ≡ true → b.count < length (items_of b)
+room_left xs n a b h k g e =
+    let more : length (rows_after xs (suc n)) ≡ length (rows_after xs n) + 1 = one_more xs n ∙ ap (λ s. length (rows_after xs n) + bit_value s) e in
+    let same : length (items_of b) ≡ length (items_of a) = row_length a b (rows_after xs n) g in
+    omega (arith, more, same, rows_up xs (suc n) (length xs) (omega (arith, h)), g.count, k)
+
+-- the reader's numbers are small
+few_after : (xs : List ℕ) (n : ℕ) → few n (open_after xs n)
+few_after xs zero = few_none 0
+few_after xs (suc n) = few_next (edge_at xs n) _ n (open_after xs n) (few_after xs n)
+
+pub small_after : (xs : List ℕ) (n : ℕ) → n + 1 < 2 ^ 64 → AllSmall (option_map kept_of (open_after xs n))
+small_after xs n h = small_kept n (open_after xs n) h (few_after xs n)

@@ -1,0 +1,6 @@
+pub mod After
+pub mod Agreeing
+pub mod Changing
+pub mod Keeping
+pub mod Unique
+pub mod Words

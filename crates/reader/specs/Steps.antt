@@ -1,0 +1,55 @@
+-- What one sample does to the reader and to its row. Between samples the reader keeps what `Kept` says.
+use Rattle.std.specs.Prelude.{◌≡◌, ℕ, false, List, [], ◌∷◌, ◌++◌, Some, None, Option, option_map}
+use Rattle.rows.specs.declared.row.Row.{Row}
+use Rattle.rows.specs.Rows.{Grown}
+use Rattle.board.specs.Wires.{Edge, Transfer as Open, edge, is_clean}
+use Rattle.reader.specs.declared.kept.Kept.{Kept}
+use Rattle.reader.specs.declared.reader.Reader.{Reader}
+use Rattle.reader.specs.declared.transfer.Transfer.{Transfer}
+use Rattle.reader.specs.Kept.{kept_of, kept_address, kept_next, wires_at, wires_after}
+use Rattle.reader.specs.Reading.{opened, with_last, going_on, ending, grown}
+use Rattle.reader.specs.Recording.{open_after}
+
+-- what the reader keeps after n samples
+abbrev pub reader_after : List ℕ → ℕ → Reader
+reader_after xs n = record { wires = wires_after xs n; opened = option_map kept_of (open_after xs n) }
+
+-- and with one sample more
+abbrev pub stepped : ℕ → Reader → Reader
+stepped x r = let w = wires_at x in record { wires = w; opened = kept_next (edge r.wires.scl w.scl r.wires.sda w.sda) r.opened }
+
+-- a record that goes on to sample n, by what is kept of its transfer
+abbrev pub kept_prolonged : ℕ → Kept → Transfer → Transfer
+kept_prolonged n k r = record { first = r.first; last = n; address = kept_address k; ninths = k.ninths; clean = false }
+
+-- the last of the records that a row grew by changes
+abbrev pub Changes : (Transfer → Transfer) → Row Transfer → Row Transfer → Type 0
+Changes f before after = (start : Row Transfer) (r : Transfer) (rows : List Transfer) → Grown start (r ∷ rows) before → Grown start (with_last f (r ∷ rows)) after
+
+-- one record more
+abbrev pub Begins : ℕ → Row Transfer → Row Transfer → Type 0
+Begins n before after = (start : Row Transfer) (rows : List Transfer) → Grown start rows before → Grown start (rows ++ (opened n ∷ [])) after
+
+-- where a transfer is open there is a record
+abbrev pub HasLast : Option Open → List Transfer → Type 0
+HasLast None rows = Unit {0}
+HasLast (Some t) [] = ⊥
+HasLast (Some t) (r ∷ rows) = Unit {0}
+
+module _ (n : ℕ) (before : Option Kept) (old new : Row Transfer) where
+  -- an open transfer ends with a START, and with its STOP
+  abbrev pub CutOff : Type 0
+  CutOff = (t : Option Open) → before ≡ option_map kept_of t → (start : Row Transfer) (rows : List Transfer) → HasLast t rows → Grown start rows old → Grown start (ending n t (λ t. false) rows) new
+
+  abbrev pub Stopped : Type 0
+  Stopped = (t : Option Open) → before ≡ option_map kept_of t → (start : Row Transfer) (rows : List Transfer) → HasLast t rows → Grown start rows old → Grown start (ending n t is_clean rows) new
+
+module _ (n : ℕ) (before after : Option Kept) (old new : Row Transfer) where
+  abbrev pub GoesOn : Type 0
+  GoesOn = (t u : Option Open) → before ≡ option_map kept_of t → after ≡ option_map kept_of u → (start : Row Transfer) (rows : List Transfer) → HasLast t rows → Grown start rows old → Grown start (going_on n t u rows) new
+
+-- the row grows by sample n as the recording's rows do
+abbrev pub Grows : Edge → ℕ → Option Kept → Option Kept → Row Transfer → Row Transfer → Type 0
+Grows e n before after old new =
+    (t u : Option Open) → before ≡ option_map kept_of t → after ≡ option_map kept_of u →
+    (start : Row Transfer) (rows : List Transfer) → HasLast t rows → Grown start rows old → Grown start (grown e n t u rows) new
