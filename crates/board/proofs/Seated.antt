@@ -51,7 +51,7 @@ module _ {S : Type 0} (ops : Ops S) (keeps : Keeps ops) (number : S → ℕ) (se
   mine_or_not s n = same_number (ops.owner s n) (number s)
 
   -- a finish of its number is one of the chip's only number
-  abbrev own : Move → Move
+  abbrev pub own : Move → Move
   own starting = starting
   own (addressing x) = addressing x
   own (aiming a l x) = aiming a l x

@@ -5,7 +5,7 @@ use Rattle.refusals.specs.Told.{Told, ok}
 use Rattle.part.specs.Ops.{Ops}
 use Rattle.part.specs.declared.levels.Levels.{Levels}
 use Rattle.board.specs.declared.board.Board.{Board}
-use Rattle.board.specs.Engine.{move}
+use Rattle.board.specs.Engine.{idle_bus, move}
 use Rattle.board.specs.Clocks.{clock, clocks, Frees}
 use Rattle.board.specs.Runs.{Sampled}
 use Rattle.board.proofs.Clocks.{bound, at_most_nine, clock_low}
@@ -124,10 +124,19 @@ module _ {S : Type 0} (ops : Ops S) (l : Levels) where
       reached b k f 10 0 (omega (arith, f.least)) (omega (arith, f.most))
       ∙ onward ops (release l) (λ _. ended (ok (k ∷ []))) (clocks ops l k b) d _ (λ i. ((ap (λ b. (run ops (release l) b).0) (sym is) ∙ e) i, (run ops (release l) (clocks ops l k b)).1)) refl
 
+  -- a clock ends with SCL HIGH; from both wires HIGH a START and a STOP leave idle wires
+  clocked_high : (k : ℕ) (b : Board S) → 1 ≤ k → (clocks ops l k b).bus.scl ≡ true
+  clocked_high zero b h = absurd (omega (arith, h))
+  clocked_high (suc n) b h = refl
+
+  released_idle : (b : Board S) → b.bus.scl ≡ true → b.bus.sda ≡ true → (released ops l b).bus ≡ idle_bus
+  released_idle b scl sda = rw (scl, sda) refl
+
   -- and by the board it leaves
   pub recovers : (k : ℕ) (b c d : Board S) → Frees ops l k b → c ≡ clocks ops l k b → (run ops (release l) c).0 ≡ d → Recovers ops l k b d
   recovers k b c d f is e =
-      record { frees = f; after_is = sym e ∙ release_run c ∙ ap (released ops l) is }
+      let after : d ≡ released ops l (clocks ops l k b) = sym e ∙ release_run c ∙ ap (released ops l) is in
+      record { frees = f; after_is = after; idle = ap (λ d. d.bus) after ∙ released_idle (clocks ops l k b) (clocked_high k b f.least) f.high }
 
   pub recovery_sampled : (k : ℕ) (b c d : Board S) → Frees ops l k b → c ≡ clocks ops l k b → (run ops (release l) c).0 ≡ d → Sampled ops b d
   recovery_sampled k b c d f is e = job_sampled ops (recovering l) b d _ (recovered k b c d f is e)

@@ -16,7 +16,7 @@ pub byte_bit : (b : Bool) → bool_byte b ≡ bit_value b
 byte_bit true = refl
 byte_bit false = refl
 
-bit_small : (b : Bool) → bit_value b < 2
+pub bit_small : (b : Bool) → bit_value b < 2
 bit_small true = omega arith
 bit_small false = omega arith
 

@@ -28,13 +28,16 @@ module _ {S : Type 0} (ops : Ops S) (l : Levels) where
   opened n x b c d r t e f = onward ops (start l) (λ _. send_one l n x) b c r e f
 
   -- one more of some bytes, with its ACK
-  pub all_more : (n i : ℕ) (xs : List ℕ) (b c : Board S) (r : Result (Unit {0}) Refusal) {z : Board S × Told (List ℕ)} → i < length xs → is_err r ≡ false → run ops (send_one l n (get_or xs i 0)) b ≡ (c, told (λ _. []) r) → run ops (send_all l n (drop i xs)) b ≡ z → run ops (send_all l (n + 1) (drop (i + 1) xs)) c ≡ z
+  pub all_more : (n m i : ℕ) (xs : List ℕ) (b c : Board S) (r : Result (Unit {0}) Refusal) {z : Board S × Told (List ℕ)} → m ≡ n + 1 → i < length xs → is_err r ≡ false →
+      run ops (send_one l n (get_or xs i 0)) b ≡ (c, told (λ _. []) r) → run ops (send_all l n (drop i xs)) b ≡ z → run ops (send_all l m (drop (i + 1) xs)) c ≡ z
   unfolding send_all
-  all_more n i xs b c (Ok x) h t e f =
+  all_more n m i xs b c (Ok x) {z} next h t e f =
+      let more : run ops (send_all l (n + 1) (drop (i + 1) xs)) c ≡ z =
       sym (onward ops (send_one l n (get_or xs i 0)) (λ t. unless_refused t (send_all l (n + 1) (drop (i + 1) xs))) b c (ok []) e refl)
       ∙ sym (ap (λ m. run ops m b) (at_drop_more (send_all l n) xs i 0 h))
-      ∙ f
-  all_more n i xs b c (Err y) h t e f = absurd (clash (sym t))
+      ∙ f in
+      rw next more
+  all_more n m i xs b c (Err y) next h t e f = absurd (clash (sym t))
 
   -- the byte without an ACK ends them
   pub all_refused : (n i : ℕ) (xs : List ℕ) (b c : Board S) (r : Result (Unit {0}) Refusal) {z : Board S × Told (List ℕ)} → i < length xs → is_err r ≡ true → run ops (send_one l n (get_or xs i 0)) b ≡ (c, told (λ _. []) r) → run ops (send_all l n (drop i xs)) b ≡ z → z ≡ (c, told (λ _. []) r)

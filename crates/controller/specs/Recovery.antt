@@ -4,7 +4,7 @@ use Rattle.refusals.specs.Told.{Told, ok}
 use Rattle.part.specs.Ops.{Ops}
 use Rattle.part.specs.declared.levels.Levels.{Levels}
 use Rattle.board.specs.declared.board.Board.{Board}
-use Rattle.board.specs.Engine.{move}
+use Rattle.board.specs.Engine.{idle_bus, move}
 use Rattle.board.specs.Clocks.{clocks, Frees}
 use Rattle.controller.specs.Master.{Master, ended, ◌then◌}
 use Rattle.controller.specs.Bytes.{put, stop, clock}
@@ -27,7 +27,8 @@ module _ {S : Type 0} (ops : Ops S) where
   abbrev pub released : Levels → Board S → Board S
   released l b = move ops (move ops (move ops (move ops b true false l) false false l) true false l) true true l
 
-  -- a recovery of k clocks, from one board to another
+  -- a recovery of k clocks, from one board to another, on which the wires are idle
   pub record Recovers (l : Levels) (k : ℕ) (before after : Board S) : Type 0 where
     pub frees : Frees ops l k before
     pub after_is : after ≡ released l (clocks ops l k before)
+    pub idle : after.bus ≡ idle_bus

@@ -2,6 +2,7 @@
 ghost use Rattle.std.specs.Prelude.{◌≡◌, []};
 ghost use Rattle.refusals.specs.Told.{told};
 ghost use Rattle.controller.specs.Master.{run};
+ghost use Rattle.controller.specs.Cells.{AllBytes};
 ghost use Rattle.controller.specs.Jobs.{addressing, stop_refused, end_refused};
 
 use super::sending::open_write;
@@ -36,7 +37,8 @@ pub(super) fn open_read<P: Part>(
     address: u8,
     aim: &[u8],
 ) -> Result<Reading, Refusal>
-    ensures { run P.Part.ops (end_refused levels.now (addressing levels.now address aim.now)) board.old ≡ (board.new, told (λ _. []) result) }
+    ensures run { run P.Part.ops (end_refused levels.now (addressing levels.now address aim.now)) board.old ≡ (board.new, told (λ _. []) result) }
+    ensures bytes { AllBytes aim.now }
 {
     if aim.is_empty() {
         let (reading, result) = Quiet::new().read(board, levels, address);

@@ -2,6 +2,7 @@
 ghost use Rattle.std.specs.Prelude.{◌≡◌, ◌+◌, ◌^◌, ◌<◌, [], length};
 ghost use Rattle.refusals.specs.Told.{told};
 ghost use Rattle.controller.specs.Master.{run};
+ghost use Rattle.controller.specs.Cells.{AllBytes};
 ghost use Rattle.controller.specs.Jobs.{send_all, sending, writing, lowered};
 ghost use Rattle.controller.specs.Transfers.{Sent};
 
@@ -73,6 +74,7 @@ pub(super) fn write_low<P: Part>(
     bytes: &[u8],
 ) -> Result<(), Refusal>
     ensures run { run P.Part.ops (writing (lowered lines.old) address bytes.now) board.old ≡ (board.new, told (λ _. []) result) }
+    ensures bytes { AllBytes bytes.now }
     ensures lines { lines.new ≡ lines.old }
 {
     let guard = WpGuard::lower(lines);

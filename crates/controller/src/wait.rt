@@ -6,6 +6,8 @@ ghost use Rattle.jobfile.specs.Said.{shown_wait};
 ghost use Rattle.controller.specs.Master.{run};
 ghost use Rattle.controller.specs.Notes.{after_wait};
 ghost use Rattle.controller.specs.Said.{master_of};
+ghost use Rattle.controller.specs.Jobs.{lowered};
+ghost use Rattle.controller.specs.Work.{polled, Works};
 
 use super::note::{Busy, spend};
 use super::waiting::poll;
@@ -23,6 +25,7 @@ pub fn wait<P: Part>(
     note: Option<Busy>,
 ) -> (Option<Busy>, Result<(), Refusal>)
     ensures run { run P.Part.ops (master_of lines.old 0 (shown_wait job.now)) board.old ≡ (board.new, told (λ _. []) result.1) }
+    ensures work { Works (polled P.Part.ops (lowered lines.old) job.now.address job.now.polls) board.old board.new (told (λ _. []) result.1) }
     ensures sampled { Sampled P.Part.ops board.old board.new }
     ensures lines { lines.new ≡ lines.old }
     ensures note { result.0 ≡ after_wait job.now.address (told (λ _. []) result.1) note }

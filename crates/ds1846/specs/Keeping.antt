@@ -17,7 +17,7 @@ use Rattle.ds1846.specs.declared.state.Mode.TheVariants.{Idle, Aiming, Writing, 
 use Rattle.ds1846.specs.Chip.{ds1846, as_part, heard_in, hears, mode_after, is_aiming, aims, is_writing, takes, cells_taken, tap_at}
 
 -- the wipers follow the lasting bytes
-tap_same : (e f : Eeprom 256) → ((i : ℕ) → byte_at f i ≡ byte_at e i) → (j : ℕ) → tap_at f j ≡ tap_at e j
+pub tap_same : (e f : Eeprom 256) → ((i : ℕ) → byte_at f i ≡ byte_at e i) → (j : ℕ) → tap_at f j ≡ tap_at e j
 tap_same e f h j = let a = h 249 in let b = h 248 in let c = h 250 in cc
 
 same_taps : (s t : Ds1846) → ((i : ℕ) → byte_at t.eeprom i ≡ byte_at s.eeprom i) → Still ds1846 s t

@@ -18,11 +18,11 @@ use Rattle.x9520.specs.Sound.{Sound, AlwaysSound}
 use Rattle.x9520.specs.State.{factory, fresh, wipers_from, heard_in}
 use Rattle.x9520.specs.Writing.{names, opens, rejected, aim_for, aim_in, aim_named, Verdict, refused, barred, pages, moves, latches, stores, verdict, dcps_taken, with_moved, no_dcp}
 
-abbrev standing : ℕ → ℕ → ℕ → List Dcp
+abbrev pub standing : ℕ → ℕ → ℕ → List Dcp
 standing a b c = at_byte 64 a ∷ at_byte 100 b ∷ at_byte 256 c ∷ []
 
 -- each was moved there by a byte
-abbrev Stands : List Dcp → Type 0
+abbrev pub Stands : List Dcp → Type 0
 Stands d = (a : ℕ) × ((b : ℕ) × ((c : ℕ) × (d ≡ standing a b c)))
 
 not_one : (t : Bool) (n x a b c : ℕ) (d : List Dcp) → ltb (suc (suc (suc n))) 3 ≡ t → Stands (cond t d (standing a b c))
@@ -46,7 +46,7 @@ taken_stands (moves store) d m x s = moved_stands d m x s
 taken_stands latches d m x s = s
 taken_stands stores d m x s = s
 
-powered_stands : (e : Eeprom 260) → Stands (wipers_from e)
+pub powered_stands : (e : Eeprom 260) → Stands (wipers_from e)
 powered_stands e = (byte_at e 256, (byte_at e 257, (byte_at e 258, refl)))
 
 -- and the DCP last named is one of them
@@ -78,7 +78,7 @@ pub named_by : (t : Bool) (w : Mode) (x n : ℕ) → n < 3 → aim_named (cond t
 named_by true w x n h = named_in w x n h
 named_by false w x n h = h
 
-step : (s : X9520) (m : Move) → Stands s.dcps × (s.named < 3) → Stands (moved x9520 s m).dcps × ((moved x9520 s m).named < 3)
+pub step : (s : X9520) (m : Move) → Stands s.dcps × (s.named < 3) → Stands (moved x9520 s m).dcps × ((moved x9520 s m).named < 3)
 step s starting h = h
 step s (addressing x) h = h
 step s (aiming a l x) h = (h.0, named_by (is a (heard_in s.mode)) s.mode x s.named h.1)
@@ -103,7 +103,7 @@ registers_hold (suc zero) a b c h = (holds 100 b).byte
 registers_hold (suc (suc zero)) a b c h = (holds 256 c).byte
 registers_hold (suc (suc (suc n))) a b c h = absurd (omega arith)
 
-sound : (s : X9520) → Stands s.dcps → s.named < 3 → Sound s
+pub sound : (s : X9520) → Stands s.dcps → s.named < 3 → Sound s
 sound s d n = record {
   latches = s.latches.ordered;
   named = n;

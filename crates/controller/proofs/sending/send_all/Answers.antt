@@ -1,6 +1,4 @@
-use Rattle.std.proofs.Common.{◌≡◌, ◌+◌, drop, sym, ap, ◌∙◌, arith}
-use Rattle.controller.specs.Master.{run}
-use Rattle.controller.specs.Jobs.{send_all}
+use Rattle.std.proofs.Common.{◌≡◌, ◌+◌, sym, ◌∙◌, arith}
 use Rattle.controller.proofs.Sends.{all_more, all_refused, all_sent, uncounted}
 use Rattle.controller.proofs.sending.send_all.Goals as goal
 
@@ -11,9 +9,9 @@ returns-then-is_err g c =
 
 pub loop-byte-preserved : goal.loop-byte-preserved
 loop-byte-preserved g c =
-    let one : c.send-result.result.0.sent ≡ c.loop-byte.writing.sent + 1 = omega (arith, c.send-result.ensures.count, c.loop-byte.invariant.0, c.requires) in
-    let more = all_more g.P.Part.ops c.args.levels.now c.loop-byte.writing.sent c.loop-byte.byte-index c.args.bytes.now c.loop-byte.board _ _ c.loop-byte-test.true (sym c.is_err.ensures.value ∙ c.if-is_err.false) c.send-result.ensures.run c.loop-byte.invariant.1 in
-    (omega (arith, one, c.loop-byte.invariant.0), ap (λ n. run g.P.Part.ops (send_all c.args.levels.now n (drop (c.loop-byte.byte-index + 1) c.args.bytes.now)) c.send-result.new.board) one ∙ more)
+    let next : c.send-result.result.0.sent ≡ c.loop-byte.writing.sent + 1 = omega (arith, c.send-result.ensures.count, c.loop-byte.invariant.0, c.requires) in
+    let acked = sym c.is_err.ensures.value ∙ c.if-is_err.false in
+    (omega (arith, next, c.loop-byte.invariant.0), all_more g.P.Part.ops c.args.levels.now c.loop-byte.writing.sent _ c.loop-byte.byte-index c.args.bytes.now c.loop-byte.board _ _ next c.loop-byte-test.true acked c.send-result.ensures.run c.loop-byte.invariant.1)
 
 pub returns : goal.returns
 returns g c =
