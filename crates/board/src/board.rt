@@ -45,15 +45,15 @@ impl<P: Part> Board<P> {
         ensures answer { told (λ x. x) result ≡ sample_told P.Part.ops self.old sample }
     {
         let sample = Sample::try_from(sample)?;
-        Ok(self.put(sample))
+        Ok(self.put(sample.scl, sample.sda, &sample.levels))
     }
 
     // Gives the board one sample, which it cannot refuse, and answers SDA on the wire.
-    pub fn put(&mut self, sample: Sample) -> bool
-        ensures after { self.new ≡ move P.Part.ops self.old sample.scl sample.sda sample.levels }
+    pub fn put(&mut self, scl: bool, sda: bool, levels: &Levels) -> bool
+        ensures after { self.new ≡ move P.Part.ops self.old scl sda levels.now }
         ensures answer { result ≡ self.new.bus.sda }
     {
-        let Sample { scl, sda, levels } = sample;
+        let levels = *levels;
         self.part.level(levels);
         if self.bus.scl && !scl {
             self.fall();
@@ -120,6 +120,8 @@ impl<P: Part> Board<P> {
         }
     }
 
+    // The edges and bits that few samples bring are calls of their own in the program too: so the way of most samples stays short.
+    #[inline(never)]
     fn start(&mut self)
         ensures { self.new ≡ start P.Part.ops self.old }
     {
@@ -127,6 +129,7 @@ impl<P: Part> Board<P> {
         self.bus.phase = Phase::opened(Kind::Address);
     }
 
+    #[inline(never)]
     fn stop(&mut self, levels: Levels)
         ensures { self.new ≡ stop P.Part.ops self.old levels }
     {
@@ -181,6 +184,7 @@ impl<P: Part> Board<P> {
     }
 
     // A byte is whole at its eighth rise.
+    #[inline(never)]
     fn whole(&mut self, kind: Kind, levels: Levels, byte: u8)
         ensures { self.new ≡ whole P.Part.ops kind self.old levels byte }
     {
@@ -243,6 +247,7 @@ impl<P: Part> Board<P> {
     }
 
     // What follows the ninth bit of an acknowledged byte.
+    #[inline(never)]
     fn go_on(&mut self, next: Next)
         ensures { self.new ≡ go_on P.Part.ops next self.old }
     {
@@ -257,6 +262,7 @@ impl<P: Part> Board<P> {
         }
     }
 
+    #[inline(never)]
     fn fetch(&mut self, address: u8)
         ensures { self.new ≡ fetch P.Part.ops self.old address }
     {

@@ -6,7 +6,6 @@ ghost use Rattle.controller.specs.Master.{run};
 ghost use Rattle.controller.specs.Bytes.{put, start, stop, send_bit, read_bit, send_bits, read_bits, send, receive};
 
 use board::board::Board;
-use board::sample::Sample;
 use part::Part;
 use part::levels::Levels;
 
@@ -15,8 +14,7 @@ use part::levels::Levels;
 pub(super) fn put<P: Part>(board: &mut Board<P>, levels: &Levels, scl: bool, sda: bool) -> bool
     ensures { run P.Part.ops (put levels.now scl sda) board.old ≡ (board.new, result) }
 {
-    let levels = *levels;
-    board.put(Sample { scl, sda, levels })
+    board.put(scl, sda, levels)
 }
 
 #[tactic(auto, unfolding(crate::specs::Bytes::start))]

@@ -1,11 +1,10 @@
 -- Whether some cell has a write under way: from one that has, and down to it. Assumes nothing.
-use Rattle.std.proofs.Common.{◌≡◌, ℕ, ◌<◌, length, true, is_some, Some, None, Option, sym, refl, ap, ◌∙◌, arith}
+use Rattle.std.proofs.Common.{◌≡◌, ℕ, ◌<◌, true, is_some, Some, None, Option, sym, refl, ap, ◌∙◌, arith}
 use borrow.Author.Tests.{clash}
-use Rattle.std.specs.List.{list_any}
 use Rattle.std.proofs.lemmas.List.Folds.{Any-from_list_any, list_any_at}
 use Rattle.eeprom.specs.declared.Eeprom.{Eeprom}
 use Rattle.eeprom.specs.Cells.{table, under_at, is_busy}
-use Rattle.eeprom.proofs.Places.{length_table, table_at, table_of}
+use Rattle.eeprom.proofs.Places.{length_table, table_at}
 
 valued : (w : Option ℕ) → is_some w ≡ true → (v : ℕ) × (w ≡ Some v)
 valued None h = absurd (clash h)
@@ -23,7 +22,3 @@ module _ {N : ℕ} (e : Eeprom N) where
       let long = length_table (under_at e) N in
       let same = sym (table_at (under_at e) any.1 N any.0 (omega arith)) ∙ any.3 in
       (any.0, valued (under_at e any.0) (ap is_some same ∙ any.4))
-
-  -- in an array of N writes these are all
-  pub all_writes : length e.under ≡ N → list_any is_some e.under ≡ is_busy e
-  all_writes long = ap (list_any is_some) (table_of None e.under N long)

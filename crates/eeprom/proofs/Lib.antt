@@ -1,3 +1,4 @@
+pub mod Any
 pub mod Busy
 pub mod Moves
 pub mod Numbered

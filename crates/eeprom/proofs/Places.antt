@@ -1,13 +1,12 @@
 -- What stands at a place of a table, and lists as tables. Assumes nothing.
-use Rattle.std.proofs.Common.{◌≡◌, ℕ, zero, suc, ◌<◌, Bool, true, false, cond, eqb, ltb, List, length, get_or, set, Some, None, Option, sym, refl, ap, ◌∙◌, subst, ◌+◌, ◌≤◌, ⊎_elim, arith}
+use Rattle.std.proofs.Common.{◌≡◌, ℕ, zero, suc, ◌<◌, Bool, true, false, cond, eqb, ltb, List, length, get_or, set, sym, refl, ◌∙◌, subst, ◌+◌, ◌≤◌, ⊎_elim, arith}
 use Rattle.std.specs.Array.{IsFromFnResult, IsFromFnResultFrom}
 use Rattle.std.specs.Fn.{Called}
 use denote.Param.Members.{Mut}
 use Rattle.std.proofs.lemmas.List.FromFn.{get_or-map-range_with_len, length-map-range_with_len, fill_by_all}
 use Rattle.std.proofs.lemmas.List.{length-set, get_or-set_same, get_or-set_other, get_or-replicate}
-use Rattle.std.proofs.lemmas.Bool.{ltb-true, lt-ltb, le-ltb, eq-eqb, ne_eqb, cases_eq}
-use Rattle.eeprom.specs.declared.Eeprom.{Eeprom}
-use Rattle.eeprom.specs.Cells.{place, table, all_of, stages}
+use Rattle.std.proofs.lemmas.Bool.{ltb-true, lt-ltb, eq-eqb, ne_eqb, cases_eq}
+use Rattle.eeprom.specs.Cells.{place, table, all_of}
 
 module _ {A : Type 0} where
   pub length_table : (f : ℕ → A) (n : ℕ) → length (table n f) ≡ n
@@ -47,7 +46,7 @@ module _ {A : Type 0} where
       (λ e. rw (ne_eqb k n e, lt-ltb k m h) (get_or-set_other xs n k v d e))
       (cases_eq k n)
 
-  set_table : (d v : A) (xs : List A) (n m : ℕ) → n < m → length xs ≡ m → set xs n v ≡ table m (λ i. cond (eqb i n) v (place m d xs i))
+  pub set_table : (d v : A) (xs : List A) (n m : ℕ) → n < m → length xs ≡ m → set xs n v ≡ table m (λ i. cond (eqb i n) v (place m d xs i))
   set_table d v xs n m lt long = as_table _ d _ m (simp length-set long) (λ k h. changed d v xs n m k lt long h)
 
   at_table : (b : Bool) (f : ℕ → A) (d : A) (n i : ℕ) → ltb i n ≡ b → (b ≡ false → f i ≡ d) → cond b (get_or (table n f) i d) d ≡ f i
@@ -66,14 +65,3 @@ module _ {A : Type 0} where
   -- the default everywhere
   pub place_none : (d : A) (n i : ℕ) → place n d (all_of n d) i ≡ d
   place_none d n i = none_at (ltb i n) d n i refl
-
-module _ {N : ℕ} (e : Eeprom N) (n b : ℕ) where
-  with_staged : List (Option ℕ) → Eeprom N
-  with_staged xs = record { bytes = e.bytes; staged = xs; under = e.under }
-
-  pub staged_cell : n < N → length e.staged ≡ N → record { bytes = e.bytes; staged = set e.staged n (Some b); under = e.under } ≡ stages e n b
-  unfolding with_staged
-  staged_cell h long = ap with_staged (rw (lt-ltb n N h) (set_table None (Some b) e.staged n N h long))
-
-  pub no_such_cell : N ≤ n → e ≡ stages e n b
-  no_such_cell h = rw (le-ltb n N h) refl

@@ -1,30 +1,25 @@
 // The lasting cells of a chip, with the writes staged for them and the writes under way, for any number of cells.
 #![tactic(auto)]
 
-ghost use Rattle.std.specs.Prelude.{◌≡◌, if◌then◌else◌, Some, is_some, cond, nat_lt};
-ghost use Rattle.std.specs.List.{list_any};
-ghost use Rattle.std.specs.Option.{option_or, unwrap_or};
+ghost use Rattle.std.specs.Prelude.{◌≡◌, if◌then◌else◌, Some, cond, nat_lt};
+ghost use Rattle.std.specs.Option.{unwrap_or};
 ghost use Rattle.eeprom.specs.Cells.{byte_at, staged_at, under_at, is_busy, marks, all_fresh, stages, unstages, ends, begins, stopped, finishes, cuts};
 
 pub mod pages;
 pub mod parts;
+mod writes;
 
 use std::array;
+use writes::Writes;
 
-// Cell n has the lasting byte bytes[n]; staged[n] and under[n] are the value staged for it and the one under way to it.
-// These are three arrays and not one of cells with three fields, for speed: a START drops all that is staged, which is one fill.
+// Cell n has the lasting byte bytes[n]; what is staged for cells and what is under way to them are writes.
+// These are three arrays and not one of cells with three fields, for speed: a START drops all that is staged, which is one fill, and
+// none where nothing is.
 #[derive(Clone, Copy, PartialEq, Eq, Debug)]
 pub struct Eeprom<const N: usize> {
     bytes: [u8; N],
-    staged: [Option<u8>; N],
-    under: [Option<u8>; N],
-}
-
-// Whether there is a write at some place.
-fn any_write(writes: &[Option<u8>]) -> bool
-    ensures { result ≡ list_any is_some writes.now }
-{
-    writes.iter().any(|write| write.is_some())
+    staged: Writes<N>,
+    under: Writes<N>,
 }
 
 impl<const N: usize> Eeprom<N> {
@@ -34,8 +29,8 @@ impl<const N: usize> Eeprom<N> {
     {
         Eeprom {
             bytes: [0; N],
-            staged: [None; N],
-            under: [None; N],
+            staged: Writes::none(),
+            under: Writes::none(),
         }
     }
 
@@ -45,51 +40,43 @@ impl<const N: usize> Eeprom<N> {
         self.bytes.get(n).copied()
     }
 
-    // This and the next read a list of their own, in a line each.
     pub fn staged(&self, n: usize) -> Option<u8>
         ensures { result ≡ staged_at self.now n }
     {
-        self.staged.get(n).copied().flatten()
+        self.staged.get(n)
     }
 
     pub fn under_way(&self, n: usize) -> Option<u8>
         ensures { result ≡ under_at self.now n }
     {
-        self.under.get(n).copied().flatten()
+        self.under.get(n)
     }
 
     // Whether some write is under way.
-    #[tactic(auto, using(crate::proofs::Busy::all_writes))]
     pub fn busy(&self) -> bool
         ensures { result ≡ is_busy self.now }
     {
-        any_write(&self.under)
+        self.under.any()
     }
 
-    // Stages a byte for a cell, in the place of an earlier one; where there is no such cell, nothing. It is written by index, since
-    // after a `get_mut` the check knows nothing of the array but its length.
-    #[tactic(auto, using(crate::proofs::Places::staged_cell, crate::proofs::Places::no_such_cell))]
+    // Stages a byte for a cell, in the place of an earlier one; where there is no such cell, nothing.
     pub fn stage(&mut self, n: usize, byte: u8)
         ensures { self.new ≡ stages self.old n byte }
     {
-        if n < N {
-            self.staged[n] = Some(byte);
-        }
+        self.staged.set(n, byte);
     }
 
-    #[tactic(auto, unfolding(crate::specs::Cells::all_of))]
     pub fn unstage(&mut self)
         ensures { self.new ≡ unstages self.old }
     {
-        self.staged.fill(None);
+        self.staged.clear();
     }
 
     // No write is under way any more.
-    #[tactic(auto, unfolding(crate::specs::Cells::all_of))]
     fn end(&mut self)
         ensures { self.new ≡ ends self.old }
     {
-        self.under.fill(None);
+        self.under.clear();
     }
 
     // At a STOP all that is staged comes under way, or is dropped.
@@ -107,11 +94,7 @@ impl<const N: usize> Eeprom<N> {
     pub fn begin(&mut self)
         ensures { self.new ≡ begins self.old }
     {
-        self.under = array::from_fn(
-            |n|
-                ensures { result ≡ option_or (under_at self.entry.now n) (staged_at self.entry.now n) }
-            { self.under_way(n).or(self.staged(n)) },
-        );
+        self.under.fill_from(&self.staged);
         self.unstage();
     }
 
