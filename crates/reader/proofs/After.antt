@@ -15,33 +15,39 @@ use Rattle.reader.specs.Read.{transfers}
 use Rattle.reader.specs.Steps.{reader_after, stepped, HasLast}
 use Rattle.reader.specs.Reading.{opened, prolonged, ended, with_last, going_on, ending, grown, rows_after}
 use Rattle.reader.specs.Recording.{scl_after, sda_after, edge_at, open_after}
+use Rattle.reader.specs.Transfers.{Shows}
 use Rattle.reader.proofs.Keeping.{next_kept, few, few_none, few_next, small_kept}
 
 pub reader_more : (xs : List ℕ) (n : ℕ) → stepped (get_or xs n 0) (reader_after xs n) ≡ reader_after xs (suc n)
 reader_more xs n = ap (λ o. record { wires = wires_after xs (suc n); opened = o }) (next_kept (scl_after xs n) (scl_after xs (suc n)) (sda_after xs n) (sda_after xs (suc n)) (open_after xs n))
 
--- a transfer that is open has a record
-last_changed : (f : Transfer → Transfer) (t : Open) (r : Transfer) (rows : List Transfer) → HasLast (Some t) (with_last f (r ∷ rows))
-last_changed f t r [] = tt
-last_changed f t r (s ∷ rows) = tt
+-- the last record shows the transfer that is open
+last_changed : (f : Transfer → Transfer) (t : Open) (r : Transfer) (rows : List Transfer) → ((s : Transfer) → Shows (f s) t) → HasLast (Some t) (with_last f (r ∷ rows))
+last_changed f t r [] h = h r
+last_changed f t r (s ∷ []) h = h s
+last_changed f t r (s ∷ (u ∷ rows)) h = last_changed f t s (u ∷ rows) h
 
-last_pushed : (t : Open) (r : Transfer) (rows : List Transfer) → HasLast (Some t) (rows ++ (r ∷ []))
-last_pushed t r [] = tt
-last_pushed t r (s ∷ rows) = tt
+last_pushed : (t : Open) (r : Transfer) (rows : List Transfer) → Shows r t → HasLast (Some t) (rows ++ (r ∷ []))
+last_pushed t r [] h = h
+last_pushed t r (s ∷ []) h = h
+last_pushed t r (s ∷ (u ∷ rows)) h = last_pushed t r (u ∷ rows) h
+
+last_prolonged : (n : ℕ) (t : Open) (r : Transfer) (rows : List Transfer) → HasLast (Some t) (with_last (prolonged n t) (r ∷ rows))
+last_prolonged n t r rows = last_changed (prolonged n t) t r rows (λ s. (refl, refl))
 
 last_on : (n : ℕ) (o u : Option Open) (rows : List Transfer) → ((u ≡ None) → o ≡ None) → ((o ≡ None) → u ≡ None) → HasLast o rows → HasLast u (going_on n o u rows)
 last_on n o None rows h k m = tt
 last_on n None (Some u) rows h k m = absurd (none-some _ (sym (k refl)))
 last_on n (Some t) (Some u) [] h k m = absurd m
-last_on n (Some t) (Some u) (r ∷ rows) h k m = last_changed (prolonged n u) u r rows
+last_on n (Some t) (Some u) (r ∷ rows) h k m = last_prolonged n u r rows
 
 last_next : (e : Edge) (pulled : Bool) (n : ℕ) (o : Option Open) (rows : List Transfer) → HasLast o rows → HasLast (next e pulled o) (grown e n o (next e pulled o) rows)
 last_next steady pulled n o rows m = last_on n o o rows (λ h. h) (λ h. h) m
-last_next started pulled n o rows m = last_pushed (transfer [] []) (opened n) (ending n o (λ t. false) rows)
+last_next started pulled n o rows m = last_pushed (transfer [] []) (opened n) (ending n o (λ t. false) rows) (refl, refl)
 last_next stopped pulled n o rows m = tt
 last_next (rose bit) pulled n None rows m = tt
 last_next (rose bit) pulled n (Some t) [] m = absurd m
-last_next (rose bit) pulled n (Some t) (r ∷ rows) m = last_changed (prolonged n (risen bit pulled t)) (risen bit pulled t) r rows
+last_next (rose bit) pulled n (Some t) (r ∷ rows) m = last_prolonged n (risen bit pulled t) r rows
 last_next fell pulled n o rows m = last_on n o o rows (λ h. h) (λ h. h) m
 
 pub has_last : (xs : List ℕ) (n : ℕ) → HasLast (open_after xs n) (rows_after xs n)

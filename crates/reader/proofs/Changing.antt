@@ -1,17 +1,17 @@
 -- The last record of a row that grew, changed in its place.
-use Rattle.std.proofs.Common.{◌≡◌, ℕ, ◌-◌, Bool, cond, List, [], ◌∷◌, ◌++◌, set, Some, None, Option, sym, refl, ap, ◌∙◌, subst, ◌⊎◌, inl, inr}
+use Rattle.std.proofs.Common.{◌≡◌, ℕ, ◌-◌, false, cond, List, [], ◌∷◌, ◌++◌, set, Some, None, Option, sym, refl, ap, ◌∙◌, subst, ◌⊎◌, inl, inr}
 use Rattle.std.specs.List.{slice_get}
 use Rattle.std.proofs.lemmas.Option.{same_Some, none-some}
 use Rattle.rows.specs.declared.row.Row.{Row}
 use Rattle.rows.specs.Rows.{items_of, row_of, holds_none, Grown}
 use Rattle.rows.proofs.Growing.{last_grown, grown_other}
-use Rattle.board.specs.Wires.{is_clean}
+use Rattle.board.specs.Wires.{Transfer as Open, is_clean}
 use Rattle.reader.specs.declared.kept.Kept.{Kept}
 use Rattle.reader.specs.declared.transfer.Transfer.{Transfer}
 use Rattle.reader.specs.declared.wires.Edge.{Edge as Seen}
-use Rattle.reader.specs.declared.wires.Edge.TheVariants.{Steady, Rise, Fall}
-use Rattle.reader.specs.Kept.{kept_of, kept_clean, edge_of}
-use Rattle.reader.specs.Steps.{kept_prolonged, Changes, GoesOn, Stopped, Grows}
+use Rattle.reader.specs.declared.wires.Edge.TheVariants.{Steady, Fall}
+use Rattle.reader.specs.Kept.{kept_of, kept_next, kept_clean, edge_of}
+use Rattle.reader.specs.Steps.{HasLast, kept_prolonged, Changes, GoesOn, Reaches, Stopped, Grows}
 use Rattle.reader.specs.Reading.{prolonged, ended, with_last}
 use Rattle.reader.proofs.Keeping.{prolonged_all, clean_kept}
 
@@ -60,8 +60,19 @@ stopped_by n before k b c i h (Some t) e start (r ∷ rows) m g =
     let same : kept_clean k ≡ is_clean t = ap kept_clean (same_Some _ _ (sym i ∙ e)) ∙ clean_kept t in
     subst (λ q. Grown start (with_last (ended n q) (r ∷ rows)) c) same (h start r rows g)
 
--- a sample with no START and no STOP
-pub quiet : (n : ℕ) (before after : Option Kept) (b c : Row Transfer) (e : Seen) → (e ≡ Steady) ⊎ (((bit : Bool) × (e ≡ Rise bit)) ⊎ (e ≡ Fall)) → GoesOn n before after b c → Grows (edge_of e) n before after b c
-quiet n before after b c e (inl s) h t u i j start rows m g = rw s (h t u i j start rows m g)
-quiet n before after b c e (inr (inl (bit, s))) h t u i j start rows m g = rw s (h t u i j start rows m g)
-quiet n before after b c e (inr (inr s)) h t u i j start rows m g = rw s (h t u i j start rows m g)
+-- a sample with no START, STOP or rise: the record that shows the open transfer only reaches it
+shown : (n : ℕ) (t : Open) (r : Transfer) (rows : List Transfer) → HasLast (Some t) (r ∷ rows) → with_last (ended n false) (r ∷ rows) ≡ with_last (prolonged n t) (r ∷ rows)
+shown n t r [] m = λ i. record { first = r.first; last = n; address = m.0 i; ninths = m.1 i; clean = false } ∷ []
+shown n t r (s ∷ rows) m = ap (λ zs. r ∷ zs) (shown n t s rows m)
+
+gone_on_alike : (n : ℕ) (before after : Option Kept) (b c : Row Transfer) → after ≡ before → Reaches n before b c → GoesOn n before after b c
+gone_on_alike n before after b c same h None u i j start rows m g = h None i start rows m g
+gone_on_alike n before after b c same h (Some t) None i j start rows m g = absurd (none-some _ (sym j ∙ same ∙ i))
+gone_on_alike n before after b c same h (Some t) (Some u) i j start [] m g = absurd m
+gone_on_alike n before after b c same h (Some t) (Some u) i j start (r ∷ rows) m g =
+    let alike : prolonged n t ≡ prolonged n u = sym (prolonged_all n t) ∙ ap (kept_prolonged n) (same_Some _ _ (sym i ∙ sym same ∙ j)) ∙ prolonged_all n u in
+    subst (λ zs. Grown start zs c) (shown n t r rows m ∙ ap (λ p. with_last p (r ∷ rows)) alike) (h (Some t) i start (r ∷ rows) m g)
+
+pub quiet : (n : ℕ) (before after : Option Kept) (b c : Row Transfer) (e : Seen) → after ≡ kept_next (edge_of e) before → (e ≡ Steady) ⊎ (e ≡ Fall) → Reaches n before b c → Grows (edge_of e) n before after b c
+quiet n before after b c e k (inl s) h = rw s (gone_on_alike n before after b c (rw s at k) h)
+quiet n before after b c e k (inr s) h = rw s (gone_on_alike n before after b c (rw s at k) h)

@@ -9,6 +9,7 @@ use Rattle.reader.specs.declared.transfer.Transfer.{Transfer}
 use Rattle.reader.specs.Kept.{kept_of, kept_address, kept_next, wires_at, wires_after}
 use Rattle.reader.specs.Reading.{opened, with_last, going_on, ending, grown}
 use Rattle.reader.specs.Recording.{open_after}
+use Rattle.reader.specs.Transfers.{Shows}
 
 -- what the reader keeps after n samples
 abbrev pub reader_after : List ℕ → ℕ → Reader
@@ -30,16 +31,17 @@ Changes f before after = (start : Row Transfer) (r : Transfer) (rows : List Tran
 abbrev pub Begins : ℕ → Row Transfer → Row Transfer → Type 0
 Begins n before after = (start : Row Transfer) (rows : List Transfer) → Grown start rows before → Grown start (rows ++ (opened n ∷ [])) after
 
--- where a transfer is open there is a record
+-- where a transfer is open, the last record shows it
 abbrev pub HasLast : Option Open → List Transfer → Type 0
 HasLast None rows = Unit {0}
 HasLast (Some t) [] = ⊥
-HasLast (Some t) (r ∷ rows) = Unit {0}
+HasLast (Some t) (r ∷ []) = Shows r t
+HasLast (Some t) (r ∷ (s ∷ rows)) = HasLast (Some t) (s ∷ rows)
 
 module _ (n : ℕ) (before : Option Kept) (old new : Row Transfer) where
-  -- an open transfer ends with a START, and with its STOP
-  abbrev pub CutOff : Type 0
-  CutOff = (t : Option Open) → before ≡ option_map kept_of t → (start : Row Transfer) (rows : List Transfer) → HasLast t rows → Grown start rows old → Grown start (ending n t (λ t. false) rows) new
+  -- an open transfer's record reaches sample n and is otherwise as it was, or ends there with its STOP
+  abbrev pub Reaches : Type 0
+  Reaches = (t : Option Open) → before ≡ option_map kept_of t → (start : Row Transfer) (rows : List Transfer) → HasLast t rows → Grown start rows old → Grown start (ending n t (λ t. false) rows) new
 
   abbrev pub Stopped : Type 0
   Stopped = (t : Option Open) → before ≡ option_map kept_of t → (start : Row Transfer) (rows : List Transfer) → HasLast t rows → Grown start rows old → Grown start (ending n t is_clean rows) new

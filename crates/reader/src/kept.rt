@@ -8,9 +8,9 @@ use super::wires::Edge;
 // whether every one of them was acknowledged. A recording shows an ACK, whoever gave it, as a LOW ninth bit.
 #[derive(Clone, Copy)]
 pub(crate) struct Kept {
+    pub ninths: usize,
     pub bits: u8,
     pub value: u8,
-    pub ninths: usize,
     pub address: u8,
     pub acked: bool,
 }

@@ -2,8 +2,8 @@
 ghost use Rattle.std.specs.Prelude.{◌≡◌, ◌<◌, true, [], length};
 ghost use Rattle.board.specs.Wires.{edge};
 ghost use Rattle.rows.specs.Rows.{items_of};
-ghost use Rattle.reader.specs.Kept.{AllSmall, edge_of, starts, wires_at};
-ghost use Rattle.reader.specs.Steps.{reader_after, stepped, kept_prolonged, Changes, Begins, GoesOn, CutOff, Stopped, Grows};
+ghost use Rattle.reader.specs.Kept.{AllSmall, edge_of, starts, kept_next, wires_at};
+ghost use Rattle.reader.specs.Steps.{reader_after, stepped, kept_prolonged, Changes, Begins, GoesOn, Reaches, Stopped, Grows};
 ghost use Rattle.reader.specs.Reading.{opened, ended};
 
 use super::kept::{Kept, next};
@@ -80,7 +80,8 @@ fn ended(transfer: Transfer, last: usize, clean: bool) -> Transfer
     }
 }
 
-// One record more.
+// One record more. START and STOP are rare, and what they do stays out of the loop over the samples.
+#[inline(never)]
 fn begin(row: &mut Row<'_, Transfer>, n: usize)
     requires { row.old.count < length (items_of row.old) }
     ensures begins { Begins n row.old row.new }
@@ -121,9 +122,9 @@ fn go_on(row: &mut Row<'_, Transfer>, n: usize, before: Option<Kept>, after: Opt
     }
 }
 
-// An open transfer ends at sample n with the START of the next.
-fn cut_off(row: &mut Row<'_, Transfer>, n: usize, before: Option<Kept>)
-    ensures ends { CutOff n before row.old row.new }
+// The record of an open transfer reaches sample n, which shows no more of it.
+fn reach(row: &mut Row<'_, Transfer>, n: usize, before: Option<Kept>)
+    ensures reaches { Reaches n before row.old row.new }
     ensures count { row.new.count ≡ row.old.count }
     ensures slots { length (items_of row.new) ≡ length (items_of row.old) }
     ensures lender { row.new.items.ghost_name ≡ row.old.items.ghost_name }
@@ -134,6 +135,7 @@ fn cut_off(row: &mut Row<'_, Transfer>, n: usize, before: Option<Kept>)
 }
 
 // An open transfer ends at sample n with its STOP.
+#[inline(never)]
 fn stop(row: &mut Row<'_, Transfer>, n: usize, before: Option<Kept>)
     ensures stops { Stopped n before row.old row.new }
     ensures lender { row.new.items.ghost_name ≡ row.old.items.ghost_name }
@@ -151,16 +153,18 @@ fn grow(
     before: Option<Kept>,
     after: Option<Kept>,
 )
-    requires { starts (edge_of edge) ≡ true → row.old.count < length (items_of row.old) }
+    requires after { after ≡ kept_next (edge_of edge) before }
+    requires room { starts (edge_of edge) ≡ true → row.old.count < length (items_of row.old) }
     ensures row { Grows (edge_of edge) n before after row.old row.new }
     ensures lender { row.new.items.ghost_name ≡ row.old.items.ghost_name }
 {
     match edge {
         Edge::Start => {
-            cut_off(row, n, before);
+            reach(row, n, before);
             begin(row, n);
         }
         Edge::Stop => stop(row, n, before),
-        Edge::Steady | Edge::Rise { bit: _ } | Edge::Fall => go_on(row, n, before, after),
+        Edge::Rise { bit: _ } => go_on(row, n, before, after),
+        Edge::Steady | Edge::Fall => reach(row, n, before),
     }
 }

@@ -7,8 +7,8 @@ use rows::keyed::Keyed;
 pub struct Transfer {
     pub first: usize,
     pub last: usize,
-    pub address: u8,
     pub ninths: usize,
+    pub address: u8,
     pub clean: bool,
 }
 

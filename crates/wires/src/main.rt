@@ -2,16 +2,16 @@
 #![tactic(auto)]
 
 use reader::line::Refused;
-use reader::read::{count, read};
+use reader::read::Recording;
 use reader::transfer::Transfer;
 use rows::row::Row;
-use std::io::Read;
+use std::io::{self, BufWriter, Read, Write};
 
 fn main(rt: HostRuntime) -> anyhow::Result<()> {
-    let mut recording = Vec::new(rt.alloc());
-    rt.stdin().read_to_end(&mut recording)?;
-    let room = match count(&recording) {
-        Ok(room) => room,
+    let mut samples = Vec::new(rt.alloc());
+    rt.stdin().read_to_end(&mut samples)?;
+    let recording = match Recording::new(&samples) {
+        Ok(recording) => recording,
         Err(refusal) => {
             rt.println(Refused(refusal))?;
             return Ok(());
@@ -24,13 +24,15 @@ fn main(rt: HostRuntime) -> anyhow::Result<()> {
         ninths: 0,
         clean: false,
     };
-    let mut transfers = vec![in rt.alloc(); blank; room]?;
+    let mut transfers = vec![in rt.alloc(); blank; recording.count()]?;
     {
         let mut row = Row::new(&mut transfers);
-        read(&recording, &mut row)?;
+        recording.read(&mut row)?;
     }
+    let mut out = BufWriter::new(rt.alloc(), io::writer(&rt))?;
     for &transfer in &transfers {
-        rt.println(transfer)?;
+        writeln!(out, "{transfer}")?;
     }
+    out.flush()?;
     Ok(())
 }
