@@ -18,13 +18,12 @@ use x9520::state::X9520;
 const MOST: usize = 4096;
 
 // A longer input is not run: it has this one line.
-const TOO_LONG: JobResult = JobResult {
-    number: 0,
-    outcome: Err(Refused {
-        refusal: Refusal::OutOfLimit,
-        place: MOST,
-    }),
-};
+fn too_long() -> JobResult {
+    JobResult {
+        number: 0,
+        outcome: Err(Refused::new(Refusal::OutOfLimit, MOST)),
+    }
+}
 
 // The bytes of the input, up to one more than a job file may have.
 fn read_file(rt: &HostRuntime) -> anyhow::Result<Vec<u8>> {
@@ -62,7 +61,7 @@ fn run(rt: &HostRuntime, file: &[u8]) -> anyhow::Result<()> {
 fn main(rt: HostRuntime) -> anyhow::Result<()> {
     let file = read_file(&rt)?;
     if file.len() > MOST {
-        let result = TOO_LONG;
+        let result = too_long();
         rt.println(ResultLine { result, bytes: &[] })?;
         return Ok(());
     }

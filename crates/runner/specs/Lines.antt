@@ -1,6 +1,5 @@
 -- The text of a result's line.
 use Rattle.std.specs.Prelude.{ℕ, ◌+◌, ◌/◌, ◌%◌, cond, List, [], ◌∷◌, ◌++◌, take, drop, codes, decimal, nat_lt}
-use Rattle.refusals.specs.Told.{number}
 use Rattle.runner.specs.declared.result.Refused.{Refused}
 use Rattle.runner.specs.Results.{Seen, done, no}
 
@@ -19,7 +18,7 @@ bytes_text (x ∷ xs) = hexes (x ∷ xs)
 
 -- the refusal and its place
 abbrev pub refused_text : Refused → List ℕ
-refused_text r = decimal (number r.refusal) ++ (codes " " ++ decimal r.place)
+refused_text r = decimal r.number ++ (codes " " ++ decimal r.place)
 
 -- `ok` and the answered bytes, or `no`, the refusal and its place
 abbrev pub outcome_text : Seen → List ℕ → List ℕ

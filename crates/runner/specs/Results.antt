@@ -1,6 +1,6 @@
 -- The results of a file as they stand in the caller's row.
 use Rattle.std.specs.Prelude.{◌≡◌, ℕ, ◌+◌, ◌-◌, Bool, true, false, ◌&&◌, List, [], ◌∷◌, map, length, Ok, Err, Result, nat_le}
-use Rattle.refusals.specs.Told.{Told, ok, refused, number}
+use Rattle.refusals.specs.Told.{Told, ok, refused}
 use Rattle.rows.specs.declared.row.Row.{Row}
 use Rattle.rows.specs.Rows.{Grown, items_of}
 use Rattle.board.specs.declared.board.Board.{Board}
@@ -18,7 +18,7 @@ pub data Seen : Type 0 where
 
 abbrev pub seen : Result Done Refused → Seen
 seen (Ok bytes) = done bytes.from bytes.count
-seen (Err why) = no (number why.refusal) why.place
+seen (Err why) = no why.number why.place
 
 abbrev pub shown : JobResult → ℕ × Seen
 shown result = (result.number, seen result.outcome)

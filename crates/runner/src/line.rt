@@ -34,8 +34,7 @@ impl fmt::Display for Refused {
     ghost output = { λ refused. Some (refused_text refused) };
 
     fn fmt<W: fmt::Write>(&self, f: &mut fmt::Formatter<W>) -> fmt::Result {
-        let Refused { refusal, place } = *self;
-        let number = refusal.number();
+        let Refused { number, place } = *self;
         write!(f, "{number} {place}")
     }
 }

@@ -1,5 +1,6 @@
 // What became of each job of a file.
 ghost use Rattle.std.specs.Prelude.{◌≡◌};
+ghost use Rattle.refusals.specs.Told.{number};
 
 use refusals::Refusal;
 use rows::keyed::Keyed;
@@ -12,11 +13,23 @@ pub struct Done {
     pub count: usize,
 }
 
-// Why a job was refused, and the place that is told with it.
+// What is told of a refused job: the refusal's number, and a place. The refusal itself is not kept, since the place of a job that
+// cannot be decoded is not the refusal's own.
 #[derive(Clone, Copy, PartialEq, Eq, Debug)]
 pub struct Refused {
-    pub refusal: Refusal,
+    pub number: u8,
     pub place: usize,
+}
+
+impl Refused {
+    pub fn new(refusal: Refusal, place: usize) -> Refused
+        ensures { result ≡ record { number = number refusal; place = place } }
+    {
+        Refused {
+            number: refusal.number(),
+            place,
+        }
+    }
 }
 
 // The jobs of a file are numbered from 1.

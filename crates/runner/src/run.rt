@@ -106,11 +106,8 @@ fn outcome(answer: Result<(), Refusal>, from: usize, to: usize) -> Result<Done, 
     ensures { seen result ≡ seen_between from to (told (λ x. x) answer) }
 {
     let count = to - from;
-    let place = |refusal: Refusal| Refused {
-        refusal,
-        place: refusal.place(),
-    };
-    answer.map(|()| Done { from, count }).map_err(place)
+    let refused = |refusal: Refusal| Refused::new(refusal, refusal.place());
+    answer.map(|()| Done { from, count }).map_err(refused)
 }
 
 // Runs a job of a file, which comes with its offset, and appends its result. A job that cannot be decoded is not run.
@@ -144,7 +141,7 @@ fn run_next<P: Part>(
             note
         }
         Err(refusal) => {
-            let outcome = Err(Refused { refusal, place: at });
+            let outcome = Err(Refused::new(refusal, at));
             let _ = results.append(JobResult { number, outcome });
             note
         }

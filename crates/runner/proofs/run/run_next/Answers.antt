@@ -2,7 +2,7 @@ use Rattle.std.proofs.Common.{◌≡◌, refl, ap, ◌∙◌, sym, subst}
 use Rattle.refusals.specs.Told.{refused, number, told}
 use Rattle.rows.specs.Rows.{Grown}
 use Rattle.jobfile.specs.Jobs.{said}
-use Rattle.runner.specs.Results.{Listed, seen_between}
+use Rattle.runner.specs.Results.{Listed, no, seen_between}
 use Rattle.runner.specs.Runs.{file_job_run, job_run, bytes_of}
 use Rattle.runner.proofs.Listing.{seen_same, grown_bytes, one_more}
 use Rattle.runner.proofs.run.run_next.Goals as goal
@@ -25,5 +25,5 @@ returns-in-Ok-clause-bytes g c =
 pub returns-in-Err-clause-results : goal.returns-in-Err-clause-results
 returns-in-Err-clause-results g c =
     let listed : Listed c.args.number c.args.bytes.now.count (refused (number c.in-Err.refusal) c.args.at) c.args.results.now c.append-in-Err.new.self =
-    (_, one_more c.args.results.now _ _ c.requires.result c.append-in-Err.ensures.count c.append-in-Err.ensures.items, refl) in
+    (_, one_more c.args.results.now _ _ c.requires.result c.append-in-Err.ensures.count c.append-in-Err.ensures.items, ap (λ why. (c.args.number, no why.number why.place)) c.new.ensures) in
     subst (λ j. Listed c.args.number c.args.bytes.now.count (file_job_run g.P.Part.ops c.args.lines.now (told said j) c.args.at c.args.board.now).1 c.args.results.now c.append-in-Err.new.self) (sym c.in-Err.is) listed
