@@ -3,6 +3,7 @@
 use crate::moves::Moves;
 use crate::notes::Notes;
 use crate::room::Rows;
+use crate::tables::Table;
 use crate::wire::Wire;
 
 // Levels of the lines beside the wires are as in a sample: 04h is WP, 08h V2RO, 10h V3RO.
@@ -30,6 +31,7 @@ pub enum Step {
     Room(Rows),
     Notes(Notes),
     Moves(Moves),
+    Table(Table),
 }
 
 #[derive(Clone, Copy)]

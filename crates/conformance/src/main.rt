@@ -24,6 +24,7 @@ mod register;
 mod room;
 mod samples;
 mod setup;
+mod tables;
 mod tally;
 mod told;
 mod transfers;
@@ -54,6 +55,7 @@ fn run_all(rt: &(impl Print + AllocGlobal), tally: &mut Tally) -> anyhow::Result
         limits::cases(),
         notes::cases(),
         moves::cases(),
+        tables::cases(),
         recordings::cases(),
     ];
     for group in groups {

@@ -74,6 +74,10 @@ impl<P: Part + Drop + PartialEq> Setup<P> {
                 moves.perform(&mut self.told);
                 Ok(())
             }
+            Step::Table(table) => {
+                table.perform(&mut self.told);
+                Ok(())
+            }
             _ => {
                 self.ask(step);
                 Ok(())

@@ -35,6 +35,3 @@ pub fn next_job(file: &[u8], at: usize) -> Result<(Job<'_>, usize), Refusal>
     let job = job_of(kind, &mut fields)?;
     Ok((job, fields.at))
 }
-
-#[cfg(test)]
-mod tests;
