@@ -1,3 +1,4 @@
+pub mod Bare
 pub mod Chips
 pub mod Keeps
 pub mod Moves
