@@ -69,6 +69,7 @@ fn main(rt: HostRuntime) -> anyhow::Result<()> {
     run_all(&rt, &mut tally)?;
     tally.run(&rt, Chips::Ds1846Ds1846, pairs::TWO_DS1846)?;
     tally.run(&rt, Chips::Ds1846X9520Ds1846, pairs::THREE_CHIPS)?;
+    tally.run(&rt, Chips::X9520Echo, pairs::X9520_ECHO)?;
     let Tally { agree, all } = tally;
     println!(rt; "{agree} of {all} agree")?;
     ensure!(agree == all, "{agree} of {all} agree");

@@ -1,8 +1,8 @@
-// Who answers on boards with pairs of other chips, and how their parts are numbered: docs/RULES.md, "Pairs".
+// Who answers on boards with pairs of other chips, and how their parts are numbered: docs/RULES.md, "Pairs" and "The echo".
 
 use crate::case::Case;
 use crate::case::Step::{Cell, Do, Run, Tap};
-use crate::files::{CUT_LOSING, DS1846_BUSY, FINISH_0, FINISH_1, X9520_BUSY};
+use crate::files::{CUT_LOSING, CUT_STORING, DS1846_BUSY, FINISH_0, FINISH_1, X9520_BUSY};
 
 // Two DS1846, which both have 51h.
 pub static TWO_DS1846: &[Case] = &[
@@ -72,5 +72,24 @@ pub static THREE_CHIPS: &[Case] = &[
             Run(&[2, 0x51, 1, 0x10, 1]),
         ],
         expected: "1 no 3 0, 2 no 3 0, 3 no 3 0, 1 ok 00",
+    },
+];
+
+// An X9520, part 0, with an echo, which listens at 21h and has no numbered part.
+pub static X9520_ECHO: &[Case] = &[
+    Case {
+        name: "an echo: the last byte written, as often as it is read; FFh before any and after a power cut",
+        steps: &[
+            Run(&[2, 0x21, 0, 1]),
+            Run(&[1, 0x21, 2, 0x12, 0xab, 2, 0x21, 0, 2]),
+            Do(CUT_STORING),
+            Run(&[2, 0x21, 0, 1]),
+        ],
+        expected: "1 ok ff, 1 ok -, 2 ok abab, 1 ok ff",
+    },
+    Case {
+        name: "an X9520 with an echo: there is no part 1",
+        steps: &[Cell(0, 259), Cell(1, 0), Tap(1, 0), Run(FINISH_1)],
+        expected: "01, no 2, no 2, 1 no 2 0",
     },
 ];

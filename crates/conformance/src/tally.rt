@@ -4,18 +4,20 @@ use crate::case::Case;
 use crate::setup::Setup;
 use board::board::Board;
 use ds1846::state::Ds1846;
+use echo::Echo;
 use pair::Pair;
 use part::Part;
 use std::alloc::Global;
 use std::io;
 use x9520::state::X9520;
 
-// The chips of a board. Its parts are numbered from 0 in the order of the names.
+// The chips of a board. Its parts are numbered from 0 in the order of the names; an echo is none of them.
 #[derive(Clone, Copy)]
 pub enum Chips {
     X9520Ds1846,
     Ds1846Ds1846,
     Ds1846X9520Ds1846,
+    X9520Echo,
 }
 
 fn run_on<P: Part + Drop + PartialEq>(
@@ -44,6 +46,10 @@ fn ds1846_ds1846() -> Pair<Ds1846, Ds1846> {
 
 fn ds1846_x9520_ds1846() -> Pair<Ds1846, Pair<X9520, Ds1846>> {
     Pair::new(Ds1846::fresh(), x9520_ds1846())
+}
+
+fn x9520_echo() -> Pair<X9520, Echo> {
+    Pair::new(X9520::fresh(), Echo::new())
 }
 
 // How many cases agree, of how many.
@@ -91,6 +97,7 @@ impl Tally {
                     ds1846_x9520_ds1846(),
                     ds1846_x9520_ds1846(),
                 )?,
+                Chips::X9520Echo => run_on(rt, self, case, x9520_echo(), x9520_echo())?,
             }
         }
         Ok(())
