@@ -15,14 +15,6 @@ use Rattle.board.specs.Cause.{Among}
 abbrev pub so_far : Transfer → List ℕ
 so_far t = cond (eqb (length t.bits) 8) (value t.bits ∷ values t.bytes) (values t.bytes)
 
-among_more : (v x : ℕ) (xs : List ℕ) → Among v (carried xs) → Among v (carried (x ∷ xs))
-among_more v x [] h = absurd h
-among_more v x (y ∷ []) h = absurd h
-among_more v x (y ∷ (z ∷ xs)) h = inr h
-
-address_more : (x y : Byte) (bs : List Byte) → address (x ∷ (y ∷ bs)) ≡ address (y ∷ bs)
-address_more x y bs = refl
-
 faded : (o p : Option ℕ) (v : ℕ) → (p ≡ o) ⊎ (p ≡ None) → p ≡ Some v → o ≡ Some v
 faded o p v (inl e) h = sym e ∙ h
 faded o p v (inr e) h = let z : ◌≡◌ {A = ℕ} 0 1 = cc in absurd (omega arith)

@@ -176,24 +176,9 @@ module _ (c : X9520) (clean : Bool) (l : Levels) where
   pub stop_tap : (j : ℕ) → x9520.tap (x9520.stop c clean l) 0 j ≡ x9520.tap c 0 j
   stop_tap j = refl
 
-  pub stop_idle : (x9520.stop c clean l).mode ≡ Idle
-  stop_idle = refl
-
   -- what comes under way
   pub stop_begins : clean ≡ true → l.wp ≡ false → (i : ℕ) → under_at (x9520.stop c clean l).eeprom i ≡ option_or (under_at c.eeprom i) (staged_at c.eeprom i)
   stop_begins h low i = ap (λ b. under_at (stopped b c.eeprom) i) (and_from clean (not l.wp) h (ap not low)) ∙ begins_under c.eeprom i
-
-  pub stop_drops : (clean && not l.wp) ≡ false → (i : ℕ) → under_at (x9520.stop c clean l).eeprom i ≡ under_at c.eeprom i
-  stop_drops h i = ap (λ b. under_at (stopped b c.eeprom) i) h
-
--- whether a STOP begins the writes staged
-begins_or : (clean wp : Bool) → ((clean ≡ true) × (wp ≡ false)) ⊎ ((clean && not wp) ≡ false)
-begins_or true true = inr refl
-begins_or true false = inl (refl, refl)
-begins_or false wp = inr refl
-
-pub stop_begins_or_drops : (clean : Bool) (l : Levels) → ((clean ≡ true) × (l.wp ≡ false)) ⊎ ((clean && not l.wp) ≡ false)
-stop_begins_or_drops clean l = begins_or clean l.wp
 
 stored_or : (t : Bool) (u : Option ℕ) (b n : ℕ) → n ≡ cond t (unwrap_or u b) b → (n ≡ b) ⊎ (u ≡ Some n)
 stored_or true None b n e = inl e
@@ -208,17 +193,11 @@ module _ (c : X9520) where
   pub finish_under : (i : ℕ) → under_at (x9520.finish c 0).eeprom i ≡ None
   finish_under i = finishes_under c.eeprom i
 
-  pub finish_staged : (i : ℕ) → staged_at (x9520.finish c 0).eeprom i ≡ staged_at c.eeprom i
-  finish_staged i = refl
-
   pub finish_tap : (j : ℕ) → x9520.tap (x9520.finish c 0) 0 j ≡ x9520.tap c 0 j
   finish_tap j = refl
 
   pub finish_latches : (x9520.finish c 0).latches ≡ c.latches
   finish_latches = refl
-
-  pub finish_mode : (x9520.finish c 0).mode ≡ c.mode
-  finish_mode = refl
 
   -- a power cut stores those that its mask marks, and clears the rest
   pub cut_byte : (p : PowerCut) (i : ℕ) → byte_at (x9520.cut c p).eeprom i ≡ cond (marks p.mask i) (unwrap_or (under_at c.eeprom i) (byte_at c.eeprom i)) (byte_at c.eeprom i)
@@ -229,9 +208,6 @@ module _ (c : X9520) where
 
   pub cut_latches : (p : PowerCut) → (x9520.cut c p).latches ≡ cleared
   cut_latches p = refl
-
-  pub cut_mode : (p : PowerCut) → (x9520.cut c p).mode ≡ Idle
-  cut_mode p = refl
 
   -- the byte of a cell afterwards is the one before, or was under way
   pub finish_either : (i : ℕ) → (byte_at (x9520.finish c 0).eeprom i ≡ byte_at c.eeprom i) ⊎ (under_at c.eeprom i ≡ Some (byte_at (x9520.finish c 0).eeprom i))
@@ -259,26 +235,7 @@ latched_wel l x h = set_wel (eqb x 0) (eqb x 2) (eqb x 6) l x refl h
 pub latched_rwel : (l : Latches) (x : ℕ) → (latched l x).rwel ≡ true → (l.rwel ≡ true) ⊎ ((x ≡ 6) × (l.wel ≡ true))
 latched_rwel l x h = set_rwel (eqb x 0) (eqb x 2) (eqb x 6) l x refl h
 
--- So at a STOP: a latch that stands stood before, or was set by the byte held.
-wel_by : (m : Mode) (clean wp : Bool) (r : ℕ) (l k : Latches) → StopLatches m clean wp r l k → k.wel ≡ true → (l.wel ≡ true) ⊎ ((m ≡ Latching 2) × (clean ≡ true))
-wel_by m clean wp r l k (inl e) h = inl (sym (ap (λ z. z.wel) e) ∙ h)
-wel_by m clean wp r l k (inr (inl e)) h = inl (sym e.1.4 ∙ h)
-wel_by m clean wp r l k (inr (inr e)) h =
-    ⊎_elim (λ w. inl w) (λ w. inr (e.1.0 ∙ ap Latching w, e.1.1)) (latched_wel l e.0 (sym (ap (λ z. z.wel) e.1.3) ∙ h))
-
-rwel_by : (m : Mode) (clean wp : Bool) (r : ℕ) (l k : Latches) → StopLatches m clean wp r l k → k.rwel ≡ true → ((k ≡ l) × (l.rwel ≡ true)) ⊎ ((v : ℕ) × ((m ≡ Latching v) × (clean ≡ true) × ((l.rwel ≡ true) ⊎ ((v ≡ 6) × (l.wel ≡ true)))))
-rwel_by m clean wp r l k (inl e) h = inl (e, sym (ap (λ z. z.rwel) e) ∙ h)
-rwel_by m clean wp r l k (inr (inl e)) h = absurd (clash (sym e.1.3 ∙ h))
-rwel_by m clean wp r l k (inr (inr e)) h = inr (e.0, (e.1.0, e.1.1, latched_rwel l e.0 (sym (ap (λ z. z.rwel) e.1.3) ∙ h)))
-
 module _ (c : X9520) (clean : Bool) (l : Levels) where
-  pub stop_wel : (x9520.stop c clean l).latches.wel ≡ true → (c.latches.wel ≡ true) ⊎ ((c.mode ≡ Latching 2) × (clean ≡ true))
-  stop_wel h = wel_by c.mode clean l.wp (stored_register c) c.latches _ (stop_latches c clean l) h
-
-  -- RWEL stays only where the latches stay, or a latch byte was held
-  pub stop_rwel : (x9520.stop c clean l).latches.rwel ≡ true → (((x9520.stop c clean l).latches ≡ c.latches) × (c.latches.rwel ≡ true)) ⊎ ((v : ℕ) × ((c.mode ≡ Latching v) × (clean ≡ true) × ((c.latches.rwel ≡ true) ⊎ ((v ≡ 6) × (c.latches.wel ≡ true)))))
-  stop_rwel h = rwel_by c.mode clean l.wp (stored_register c) c.latches _ (stop_latches c clean l) h
-
   -- what is locked does not come under way
   pub stop_locked : Guarded c → (i : ℕ) → locks (stored_register c) i ≡ true → under_at (x9520.stop c clean l).eeprom i ≡ under_at c.eeprom i
   stop_locked g i e =

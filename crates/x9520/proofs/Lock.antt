@@ -398,29 +398,13 @@ none_by None n = refl
 none_by (Some v) n = absurd (n v refl)
 
 module _ (s : X9520) (h : Guarded s) where
-  -- as asked of the part
-  pub staged_free : (i v : ℕ) → x9520.staged s 0 i ≡ Some v → locks (stored_register s) i ≡ false
-  staged_free i v e = h.free i v e
-
-  pub under_free : (i v : ℕ) → x9520.under s 0 i ≡ Some v → locks (stored_register s) i ≡ false
-  under_free i v e = h.unlocked i v e
-
-  -- so in a locked cell nothing is staged, and nothing under way
-  pub locked_unstaged : (i : ℕ) → locks (stored_register s) i ≡ true → staged_at s.eeprom i ≡ None
-  locked_unstaged i e = none_by (staged_at s.eeprom i) (λ v w. clash (sym (h.free i v w) ∙ e))
-
+  -- so nothing is under way in a locked cell
   pub locked_rests : (i : ℕ) → locks (stored_register s) i ≡ true → under_at s.eeprom i ≡ None
   locked_rests i e = none_by (under_at s.eeprom i) (λ v w. clash (sym (h.unlocked i v w) ∙ e))
-
-  pub busy_idle : x9520.busy s 0 ≡ true → (s.mode ≡ Idle) × ((i : ℕ) → staged_at s.eeprom i ≡ None)
-  busy_idle b = (h.idle b, h.empty (ap may_stage (h.idle b)))
 
   -- nothing is staged while a latch byte waits
   pub latching_empty : (v : ℕ) → s.mode ≡ Latching v → (i : ℕ) → staged_at s.eeprom i ≡ None
   latching_empty v e = h.empty (ap may_stage e)
-
-  pub storing_armed : (v : ℕ) → s.mode ≡ Storing v → s.latches.rwel ≡ true
-  storing_armed v e = (h.held v (h.storing v e).1).1
 
   -- a register byte comes under way only at a clean STOP with WP LOW, out of the byte held by RWEL
   pub register_begins : (clean : Bool) (l : Levels) (v : ℕ) → under_at (x9520.stop s clean l).eeprom 259 ≡ Some v → (under_at s.eeprom 259 ≡ Some v) ⊎ ((s.mode ≡ Storing v) × (s.latches.rwel ≡ true) × (clean ≡ true) × (l.wp ≡ false))

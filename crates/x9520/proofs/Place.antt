@@ -127,9 +127,6 @@ heard_place false s x e h = let z : x % 2 ≡ 1 → ⊥ = eqb-false (x % 2) 1 e 
 pub address_place : (s : X9520) (x : ℕ) → x9520.hears s x ≡ true → where_is (x9520.address s x).mode ≡ place (x ∷ [])
 address_place s x h = heard_place (eqb (x % 2) 1) s x refl h
 
-pub write_address : (s : X9520) (x : ℕ) → x9520.hears s x ≡ true → x % 2 ≡ 0 → where_is (x9520.address s x).mode ≡ place (x ∷ [])
-write_address s x h e = write_by (hears s x) x h e
-
 pub read_address : (s : X9520) (x : ℕ) → x % 2 ≡ 1 → where_is (x9520.address s x).mode ≡ outside
 read_address s x e = read_by (hears s x) x e
 
@@ -270,9 +267,6 @@ module _ (s : X9520) where
 
   pub start_mode : (x9520.start s).mode ≡ Idle
   start_mode = refl
-
-  pub stop_mode : (clean : Bool) (l : Levels) → (x9520.stop s clean l).mode ≡ Idle
-  stop_mode clean l = refl
 
   pub give_mode : (a : ℕ) → (x9520.give s a).mode ≡ s.mode
   give_mode a = refl
