@@ -44,7 +44,8 @@ module _ {S : Type 0} (ops : Ops S) (keeps : Keeps ops) where
   unstaged answer o u n k i v e = let f = n k i in let z : ◌≡◌ {A = ℕ} 0 1 = cc in absurd (omega arith)
 
   -- a rise at which nothing is offered: a bit more, or the ninth
-  more_bits : (w pulled answer : Bool) (byte : ℕ) (o : Option Transfer) (s : S) (k v : ℕ) → pulled ≡ pulls_by false o answer byte → (r : Bears answer o s k v) → (length r.t.bits ≡ 7 → ⊥) → (q : Bool) → ltb (length r.t.bits) 8 ≡ q → Bears answer (rising w pulled o) s k v
+  more_bits : (w pulled answer : Bool) (byte : ℕ) (o : Option Transfer) (s : S) (k v : ℕ) → pulled ≡ pulls_by false o answer byte → (r : Bears answer o s k v)
+      → (length r.t.bits ≡ 7 → ⊥) → (q : Bool) → ltb (length r.t.bits) 8 ≡ q → Bears answer (rising w pulled o) s k v
   more_bits w pulled answer byte o s k v p r n true e =
       let t = r.t in
       let lt = ltb-true _ 8 e in
@@ -56,7 +57,8 @@ module _ {S : Type 0} (ops : Ops S) (keeps : Keeps ops) where
         writing = r.writing;
         mine = r.mine;
         answered = λ z. absurd (n (omega (arith, z)));
-        carries = rw (ne_eqb (suc (length t.bits)) 8 (λ z. n (omega (arith, z)))) (subst (λ z. Among v (carried (cond z (value t.bits ∷ values t.bytes) (values t.bytes)))) (ne_eqb (length t.bits) 8 (λ z. omega (arith, z))) r.carries);
+        carries = rw (ne_eqb (suc (length t.bits)) 8 (λ z. n (omega (arith, z))))
+            (subst (λ z. Among v (carried (cond z (value t.bits ∷ values t.bytes) (values t.bytes)))) (ne_eqb (length t.bits) 8 (λ z. omega (arith, z))) r.carries);
       }
   more_bits w pulled answer byte o s k v p r n false e =
       let t = r.t in
@@ -107,7 +109,8 @@ module _ {S : Type 0} (ops : Ops S) (keeps : Keeps ops) where
   seven bs bits e = rw (ne_eqb (length bits) 8 (λ z. omega (arith, z))) refl
 
   -- the eighth rise of a later byte
-  taken_by : (ack : Bool) (answer : Bool) (s : S) (l : Levels) (w : Bool) (y z : Byte) (bs : List Byte) (bits : List Bool) (a x : ℕ) → ops.takes s a l x ≡ ack → a ≡ address (y ∷ (z ∷ bs)) → x ≡ value (w ∷ bits) → length bits ≡ 7 → sending (y ∷ (z ∷ bs)) ≡ true
+  taken_by : (ack : Bool) (answer : Bool) (s : S) (l : Levels) (w : Bool) (y z : Byte) (bs : List Byte) (bits : List Bool) (a x : ℕ) → ops.takes s a l x ≡ ack
+      → a ≡ address (y ∷ (z ∷ bs)) → x ≡ value (w ∷ bits) → length bits ≡ 7 → sending (y ∷ (z ∷ bs)) ≡ true
       → Held answer (Some (transfer (y ∷ (z ∷ bs)) bits)) s → Held (ops.takes s a l x) (Some (transfer (y ∷ (z ∷ bs)) (w ∷ bits))) (ops.take s a l x)
   taken_by true answer s l w y z bs bits a x e at is seven_bits sends h k i v st =
       let bytes = y ∷ (z ∷ bs) in
@@ -152,7 +155,8 @@ module _ {S : Type 0} (ops : Ops S) (keeps : Keeps ops) where
   offered_held (a ∷ []) bits answer w l s e sends h = none_yet answer (transfer (a ∷ []) bits) _ s _ _ (ap carried (seven (a ∷ []) bits e)) (keeps.aiming s _ l _).calm.fades h
   offered_held (y ∷ (z ∷ bs)) bits answer w l s e sends h = taken_by _ answer s l w y z bs bits (address (z ∷ bs)) (value (w ∷ bits)) refl refl refl e sends h
 
-  rose_by : (q : Bool) (t : Transfer) (w pulled answer : Bool) (byte : ℕ) (l : Levels) (s : S) → pulled ≡ pulls_by false (Some t) answer byte → (eqb (length t.bits) 7 && sending t.bytes) ≡ q → Held answer (Some t) s →
+  rose_by : (q : Bool) (t : Transfer) (w pulled answer : Bool) (byte : ℕ) (l : Levels) (s : S) → pulled ≡ pulls_by false (Some t) answer byte
+      → (eqb (length t.bits) 7 && sending t.bytes) ≡ q → Held answer (Some t) s →
       let ms = cond q (offered_byte l w t.bytes t.bits ∷ []) [] in Held (answer_after ops s ms answer) (rising w pulled (Some t)) (after ops s ms)
   rose_by true t w pulled answer byte l s p e h =
       let c = and_parts (eqb (length t.bits) 7) _ e in
@@ -163,7 +167,8 @@ module _ {S : Type 0} (ops : Ops S) (keeps : Keeps ops) where
       let f = facts answer t s k v r in
       more_bits w pulled answer byte (Some t) s k v p r (λ z. clash (sym e ∙ rw (eq-eqb (length t.bits) 7 (ap (λ u. length u.bits) (ap the r.is) ∙ z), f.1, f.2) refl)) _ refl)
 
-  held_rose : (o : Option Transfer) (w pulled answer : Bool) (byte : ℕ) (l : Levels) (s : S) → pulled ≡ pulls_by false o answer byte → Held answer o s → Held (answer_after ops s (told (rose w) l o) answer) (rising w pulled o) (after ops s (told (rose w) l o))
+  held_rose : (o : Option Transfer) (w pulled answer : Bool) (byte : ℕ) (l : Levels) (s : S) → pulled ≡ pulls_by false o answer byte → Held answer o s
+      → Held (answer_after ops s (told (rose w) l o) answer) (rising w pulled o) (after ops s (told (rose w) l o))
   held_rose None w pulled answer byte l s p h = λ k i v st. absurd (none_some (h k i v st).is)
   held_rose (Some t) w pulled answer byte l s p h = rose_by _ t w pulled answer byte l s p refl h
 
@@ -183,7 +188,8 @@ module _ {S : Type 0} (ops : Ops S) (keeps : Keeps ops) where
   pub onto_open : (answer : Bool) (o : Option Transfer) (s u : S) → Fixed ops s u → Fades ops s u → Open answer o s → Open answer o u
   onto_open answer o s u x f h t e = onto answer o s u x f (h t e)
 
-  rose_open : (o : Option Transfer) (w : Bool) (answer : Bool) (byte : ℕ) (l : Levels) (s : S) → Open answer o s → let p = pulls_by false o answer byte in Open (answer_after ops s (told (rose w) l o) answer) (rising w p o) (after ops s (told (rose w) l o))
+  rose_open : (o : Option Transfer) (w : Bool) (answer : Bool) (byte : ℕ) (l : Levels) (s : S) → Open answer o s → let p = pulls_by false o answer byte in
+      Open (answer_after ops s (told (rose w) l o) answer) (rising w p o) (after ops s (told (rose w) l o))
   rose_open None w answer byte l s h = λ t e. absurd (none_some e)
   rose_open (Some u) w answer byte l s h = λ t e. held_rose (Some u) w _ answer byte l s refl (h u refl)
 

@@ -9,7 +9,8 @@ use Rattle.board.specs.Runs.{step, state}
 use Rattle.board.specs.Answers.{shown, call_at, call_told, answers_of, after_all}
 
 module _ {S : Type 0} (ops : Ops S) where
-  pub answers_more : (xs : List Call) (i : ℕ) (d : Call) (got : List Answer) (a : Answer) (b c : Board S) {z : List _} → i < length xs → c ≡ step ops b (get_or xs i d) → shown a ≡ call_told ops b (get_or xs i d)
+  pub answers_more : (xs : List Call) (i : ℕ) (d : Call) (got : List Answer) (a : Answer) (b c : Board S) {z : List _} → i < length xs → c ≡ step ops b (get_or xs i d)
+      → shown a ≡ call_told ops b (get_or xs i d)
       → map shown got ++ answers_of ops b (drop i xs) ≡ z → map shown (got ++ (a ∷ [])) ++ answers_of ops c (drop (i + 1) xs) ≡ z
   answers_more xs i d got a b c h e f g =
       ap (λ ys. ys ++ answers_of ops c (drop (i + 1) xs)) (map-append shown got (a ∷ []))
@@ -22,7 +23,8 @@ module _ {S : Type 0} (ops : Ops S) where
   pub answers_all : (xs : List Call) (i : ℕ) (got : List Answer) (b : Board S) {z : List _} → length xs ≤ i → map shown got ++ answers_of ops b (drop i xs) ≡ z → map shown got ≡ z
   answers_all xs i got b h g = sym (append-nil (map shown got)) ∙ sym (at_drop_all (λ ys. map shown got ++ answers_of ops b ys) xs i h) ∙ g
 
-  pub board_more : (xs : List Call) (i : ℕ) (d : Call) (b c : Board S) {z : Board S} → i < length xs → c ≡ step ops b (get_or xs i d) → after_all ops b (drop i xs) ≡ z → after_all ops c (drop (i + 1) xs) ≡ z
+  pub board_more : (xs : List Call) (i : ℕ) (d : Call) (b c : Board S) {z : Board S} → i < length xs → c ≡ step ops b (get_or xs i d) → after_all ops b (drop i xs) ≡ z
+      → after_all ops c (drop (i + 1) xs) ≡ z
   board_more xs i d b c h e g = ap (λ s. after_all ops s (drop (i + 1) xs)) e ∙ sym (at_drop_more (λ ys. after_all ops b ys) xs i d h) ∙ g
 
   pub board_all : (xs : List Call) (i : ℕ) (b : Board S) {z : Board S} → length xs ≤ i → after_all ops b (drop i xs) ≡ z → b ≡ z

@@ -93,7 +93,8 @@ module _ {S : Type 0} (ops : Ops S) (keeps : Keeps ops) where
       let one = eqb-true _ 1 c.0 in
       rw (ne_eqb (length t.bits) 8 (λ z. omega (arith, one, z))) refl
 
-  stop_fate : (b : Board S) (x : ℕ) (c : Board S) (h : History) (k i : ℕ) → edge_of ops b (Sample x) c ≡ stopped → c.part ≡ ops.stop (ops.level b.part (levels x)) (clean h.opened) (levels x) → Open ops keeps h.answer h.opened b.part → Fate b (Sample x) c h k i
+  stop_fate : (b : Board S) (x : ℕ) (c : Board S) (h : History) (k i : ℕ) → edge_of ops b (Sample x) c ≡ stopped
+      → c.part ≡ ops.stop (ops.level b.part (levels x)) (clean h.opened) (levels x) → Open ops keeps h.answer h.opened b.part → Fate b (Sample x) c h k i
   stop_fate b x c h k i st e held =
       let l = levels x in
       let up = keeps.levels b.part l in
@@ -161,7 +162,8 @@ module _ {S : Type 0} (ops : Ops S) (keeps : Keeps ops) where
   abbrev told_by : Board S → ℕ → Board S → History → List Move
   told_by b x c h = told (edge_of ops b (Sample x) c) (levels x) h.opened
 
-  sample_fate : (b : Board S) (x : ℕ) (c : Board S) (h : History) (k i : ℕ) → c.part ≡ after ops (ops.level b.part (levels x)) (told_by b x c h) → Open ops keeps h.answer h.opened b.part → Fate b (Sample x) c h k i
+  sample_fate : (b : Board S) (x : ℕ) (c : Board S) (h : History) (k i : ℕ) → c.part ≡ after ops (ops.level b.part (levels x)) (told_by b x c h)
+      → Open ops keeps h.answer h.opened b.part → Fate b (Sample x) c h k i
   sample_fate b x c h k i e held = elim (is_stopped (edge_of ops b (Sample x) c)) [
     | inl st ↦ stop_fate b x c h k i st (e ∙ ap (λ z. after ops (ops.level b.part (levels x)) (told z (levels x) h.opened)) st) held
     | inr n ↦ (
@@ -169,7 +171,8 @@ module _ {S : Type 0} (ops : Ops S) (keeps : Keeps ops) where
         quiet_fate b (Sample x) c h k i (ap (λ s. ops.cell s k i) e ∙ r.cell k i) (ap (λ s. ops.under s k i) e ∙ r.under k i))
   ]
 
-  sample_fate_by : (t : Bool) (b : Board S) (x : ℕ) (c : Board S) (h : History) (k i : ℕ) → ltb x 32 ≡ t → Advances ops b (Sample x) c h → Open ops keeps h.answer h.opened b.part → Fate b (Sample x) c h k i
+  sample_fate_by : (t : Bool) (b : Board S) (x : ℕ) (c : Board S) (h : History) (k i : ℕ) → ltb x 32 ≡ t → Advances ops b (Sample x) c h
+      → Open ops keeps h.answer h.opened b.part → Fate b (Sample x) c h k i
   sample_fate_by true b x c h k i e a held = sample_fate b x c h k i (a.part ∙ ap (after ops b.part) (cond-true _ _ _ e)) held
   sample_fate_by false b x c h k i e a held = let same = a.refused e in quiet_fate b (Sample x) c h k i (ap (λ z. ops.cell z.part k i) same) (ap (λ z. ops.under z.part k i) same)
 
@@ -183,26 +186,31 @@ module _ {S : Type 0} (ops : Ops S) (keeps : Keeps ops) where
   fate b (Cut p) c h k i a held = cut_fate b p c h k i a.part
 
   -- what is staged, over a whole run
-  held_sample : (t : Bool) (b : Board S) (x : ℕ) (c : Board S) (h : History) → ltb x 32 ≡ t → Advances ops b (Sample x) c h → Open ops keeps h.answer h.opened b.part → let n = onward ops b (Sample x) c h in Open ops keeps n.answer n.opened c.part
+  held_sample : (t : Bool) (b : Board S) (x : ℕ) (c : Board S) (h : History) → ltb x 32 ≡ t → Advances ops b (Sample x) c h → Open ops keeps h.answer h.opened b.part
+      → let n = onward ops b (Sample x) c h in Open ops keeps n.answer n.opened c.part
   held_sample true b x c h e a held =
       let l = levels x in
       let up = keeps.levels b.part l in
-      let u = open_edge ops keeps b.bus.scl c.bus.scl b.bus.sda c.bus.sda l h.answer h.byte h.opened (ops.level b.part l) (onto_open ops keeps h.answer h.opened b.part _ up.calm.fixed up.calm.fades held) in
+      let u = open_edge ops keeps b.bus.scl c.bus.scl b.bus.sda c.bus.sda l h.answer h.byte h.opened (ops.level b.part l)
+          (onto_open ops keeps h.answer h.opened b.part _ up.calm.fixed up.calm.fades held) in
       rw (a.part, e) u
   held_sample false b x c h e a held =
       let same = a.refused e in
       subst (λ d. let n = onward ops b (Sample x) d h in Open ops keeps n.answer n.opened d.part) (sym same) (rw e (edge_kept b.bus.scl b.bus.sda held))
     where
-      edge_kept : (p d : Bool) → Open ops keeps h.answer h.opened b.part → Open ops keeps h.answer (Rattle.board.specs.Wires.next (edge p p d d) (pulls_by b.bus.scl h.opened h.answer h.byte) h.opened) b.part
+      edge_kept : (p d : Bool) → Open ops keeps h.answer h.opened b.part
+          → Open ops keeps h.answer (Rattle.board.specs.Wires.next (edge p p d d) (pulls_by b.bus.scl h.opened h.answer h.byte) h.opened) b.part
       edge_kept true true z = z
       edge_kept true false z = z
       edge_kept false d z = z
 
-  held_finish : (t : Bool) (b : Board S) (q : ℕ) (c : Board S) (h : History) → (numbered ops b q && ops.busy b.part q) ≡ t → Advances ops b (Finish q) c h → Open ops keeps h.answer h.opened b.part → let n = onward ops b (Finish q) c h in Open ops keeps n.answer n.opened c.part
+  held_finish : (t : Bool) (b : Board S) (q : ℕ) (c : Board S) (h : History) → (numbered ops b q && ops.busy b.part q) ≡ t → Advances ops b (Finish q) c h
+      → Open ops keeps h.answer h.opened b.part → let n = onward ops b (Finish q) c h in Open ops keeps n.answer n.opened c.part
   held_finish true b q c h e a held = let f = keeps.finishes b.part q in rw (a.part, e) (onto_open ops keeps h.answer h.opened b.part _ f.fixed f.fades held)
   held_finish false b q c h e a held = let same = a.refused e in subst (λ d. let n = onward ops b (Finish q) d h in Open ops keeps n.answer n.opened d.part) (sym same) (rw e held)
 
-  held_call : (b : Board S) (call : Call) (c : Board S) (h : History) → Advances ops b call c h → Open ops keeps h.answer h.opened b.part → let n = onward ops b call c h in Open ops keeps n.answer n.opened c.part
+  held_call : (b : Board S) (call : Call) (c : Board S) (h : History) → Advances ops b call c h → Open ops keeps h.answer h.opened b.part
+      → let n = onward ops b call c h in Open ops keeps n.answer n.opened c.part
   held_call b (Sample x) c h a held = held_sample (ltb x 32) b x c h refl a held
   held_call b (Finish q) c h a held = held_finish _ b q c h refl a held
   held_call b (Cut p) c h a held = λ t e. absurd (no_transfer ops keeps e)

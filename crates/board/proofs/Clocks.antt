@@ -127,7 +127,8 @@ module _ {S : Type 0} (ops : Ops S) where
   at_rise (Released a) s sda l h = absurd (clash (sym h))
   at_rise (Wanted a) s sda l h = absurd (clash (sym h))
 
-  rise_low_at : (before : Bool) (ph : Phase) (s : S) (sda : Bool) (l : Levels) → before ≡ false → (move ops (at before sda ph s) true true l).bus.sda ≡ false → bound (move ops (at before sda ph s) true true l) < bound_at before ph
+  rise_low_at : (before : Bool) (ph : Phase) (s : S) (sda : Bool) (l : Levels) → before ≡ false → (move ops (at before sda ph s) true true l).bus.sda ≡ false
+      → bound (move ops (at before sda ph s) true true l) < bound_at before ph
   rise_low_at true ph s sda l e h = absurd (clash (sym e))
   rise_low_at false ph s sda l e h = at_rise ph s sda l h
 

@@ -95,7 +95,8 @@ module _ {S : Type 0} (ops : Ops S) where
     pub tied : Tied c.bus.phase scl (answer_after ops s ms answer) (byte_after ops s ms byte) o
     pub part : c.part ≡ after ops s ms
 
-  pub silent : (c : Board S) (scl : Bool) (s : S) (ms : List Move) (answer : Bool) (byte : ℕ) (o : Option Transfer) → ms ≡ [] → c.part ≡ s → Tied c.bus.phase scl answer byte o → Went c scl s ms answer byte o
+  pub silent : (c : Board S) (scl : Bool) (s : S) (ms : List Move) (answer : Bool) (byte : ℕ) (o : Option Transfer) → ms ≡ [] → c.part ≡ s
+      → Tied c.bus.phase scl answer byte o → Went c scl s ms answer byte o
   silent c scl s ms answer byte o e p t = rw e (record { tied = t; part = p })
 
   -- falls
@@ -106,12 +107,15 @@ module _ {S : Type 0} (ops : Ops S) where
       by true e = rw (h (eqb-true _ 0 e)) refl
       by false e = refl
 
-  fetched : (b : Board S) (l : Levels) (answer : Bool) (byte : ℕ) (o : Option Transfer) (bs : List Byte) (a : ℕ) → o ≡ Some (transfer bs []) → giving bs ≡ true → address bs ≡ a → Went (fetch ops b a) false b.part (told fell l o) answer byte o
+  fetched : (b : Board S) (l : Levels) (answer : Bool) (byte : ℕ) (o : Option Transfer) (bs : List Byte) (a : ℕ) → o ≡ Some (transfer bs []) → giving bs ≡ true
+      → address bs ≡ a → Went (fetch ops b a) false b.part (told fell l o) answer byte o
   fetched b l answer byte o bs a is g e =
       let say : told fell l o ≡ giving_byte a ∷ [] = rw (is, g, e) refl in
-      rw say (record { tied = record { t = transfer bs []; is = is; given = g; from = e; n = 0; few = omega arith; at = refl; long = refl; shifts = record { out_is = refl; rest_is = refl } }; part = refl })
+      rw say (record { tied = record { t = transfer bs []; is = is; given = g; from = e; n = 0; few = omega arith; at = refl; long = refl;
+          shifts = record { out_is = refl; rest_is = refl } }; part = refl })
 
-  kept_first : (b : Board S) (l : Levels) (answer : Bool) (byte a : ℕ) (o : Option Transfer) → (r : Risen (ThenFirst a) answer o) → Went (with b (opened (First a)) b.part) false b.part (told fell l o) answer byte o
+  kept_first : (b : Board S) (l : Levels) (answer : Bool) (byte a : ℕ) (o : Option Transfer) → (r : Risen (ThenFirst a) answer o)
+      → Went (with b (opened (First a)) b.part) false b.part (told fell l o) answer byte o
   kept_first b l answer byte a o r =
       let f = r.follows in
       let bytes = r.x ∷ r.bs in
@@ -120,9 +124,11 @@ module _ {S : Type 0} (ops : Ops S) where
       let sends : sending bytes ≡ true = and_from _ _ (acked_sent r.x r.bs r.sends r.pulled) (ap not even) in
       let quiet = not_giving bytes sends in
       silent _ false b.part _ answer byte o (no_give l o _ r.is (λ z. quiet)) refl
-      (record { t = transfer bytes []; is = r.is; long = refl; few = omega arith; reads = refl; sends = sends; fits = (r.x, alone, f.1); unpulled = unpulled_low (transfer bytes []) (omega arith) quiet })
+      (record { t = transfer bytes []; is = r.is; long = refl; few = omega arith; reads = refl; sends = sends; fits = (r.x, alone, f.1);
+          unpulled = unpulled_low (transfer bytes []) (omega arith) quiet })
 
-  kept_later : (b : Board S) (l : Levels) (answer : Bool) (byte a : ℕ) (o : Option Transfer) → (r : Risen (ThenLater a) answer o) → Went (with b (opened (Later a)) b.part) false b.part (told fell l o) answer byte o
+  kept_later : (b : Board S) (l : Levels) (answer : Bool) (byte a : ℕ) (o : Option Transfer) → (r : Risen (ThenLater a) answer o)
+      → Went (with b (opened (Later a)) b.part) false b.part (told fell l o) answer byte o
   kept_later b l answer byte a o r =
       let f = r.follows in
       let bytes = r.x ∷ r.bs in
@@ -130,7 +136,8 @@ module _ {S : Type 0} (ops : Ops S) where
       let sends : sending bytes ≡ true = and_from _ _ (acked_sent r.x r.bs r.sends r.pulled) (ap not even) in
       let quiet = not_giving bytes sends in
       silent _ false b.part _ answer byte o (no_give l o _ r.is (λ z. quiet)) refl
-      (record { t = transfer bytes []; is = r.is; long = refl; few = omega arith; reads = refl; sends = sends; fits = later_fits a r.x r.bs f.0 f.1; unpulled = unpulled_low (transfer bytes []) (omega arith) quiet })
+      (record { t = transfer bytes []; is = r.is; long = refl; few = omega arith; reads = refl; sends = sends; fits = later_fits a r.x r.bs f.0 f.1;
+          unpulled = unpulled_low (transfer bytes []) (omega arith) quiet })
 
   went_on : (n : Next) (b : Board S) (l : Levels) (answer : Bool) (byte : ℕ) (o : Option Transfer) → (r : Risen n answer o) → Went (go_on ops n b) false b.part (told fell l o) answer byte o
   went_on (ThenFirst a) b l answer byte o r = kept_first b l answer byte a o r
@@ -140,12 +147,15 @@ module _ {S : Type 0} (ops : Ops S) where
       let alone : r.x ∷ r.bs ≡ r.x ∷ [] = ap (λ z. r.x ∷ z) f.0 in
       fetched b l answer byte o (r.x ∷ r.bs) a r.is (and_from _ _ (acked_sent r.x r.bs r.sends r.pulled) (ap reading alone ∙ ap odd f.1 ∙ f.2)) (ap address alone ∙ f.1)
 
-  shifted : (t : Bool) (b : Board S) (l : Levels) (answer : Bool) (byte a rises left : ℕ) (out : Bool) (o : Option Transfer) → ltb rises 8 ≡ t → Gives true byte a rises left out o → Went (shift ops t b a rises left) false b.part (told fell l o) answer byte o
+  shifted : (t : Bool) (b : Board S) (l : Levels) (answer : Bool) (byte a rises left : ℕ) (out : Bool) (o : Option Transfer) → ltb rises 8 ≡ t
+      → Gives true byte a rises left out o → Went (shift ops t b a rises left) false b.part (told fell l o) answer byte o
   shifted true b l answer byte a rises left out o e g =
       let lt = ltb-true rises 8 e in
       let at : rises ≡ suc g.n = g.at in
       let silence = no_give l o g.t g.is (λ z. absurd (omega (arith, g.long, z))) in
-      silent _ false b.part _ answer byte o silence refl (record { t = g.t; is = g.is; given = g.given; from = g.from; n = suc g.n; few = omega arith; at = g.at; long = g.long; shifts = next_shift g.n byte left out (omega arith) g.shifts })
+      silent _ false b.part _ answer byte o silence refl
+          (record { t = g.t; is = g.is; given = g.given; from = g.from; n = suc g.n; few = omega arith; at = g.at; long = g.long;
+              shifts = next_shift g.n byte left out (omega arith) g.shifts })
   shifted false b l answer byte a rises left out o e g =
       let le = ltb-false rises 8 e in
       let few = g.few in
@@ -158,10 +168,12 @@ module _ {S : Type 0} (ops : Ops S) where
   dead_fall l answer byte o t is (inr d) = (no_give l o t is (λ z. absurd (omega (arith, d.0, z))), inr d)
 
   -- the phase stays, and nothing is told
-  stays : (ph : Phase) (b : Board S) (scl : Bool) (ms : List Move) (answer : Bool) (byte : ℕ) (o : Option Transfer) → b.bus.phase ≡ ph → ms ≡ [] → Tied ph scl answer byte o → Went b scl b.part ms answer byte o
+  stays : (ph : Phase) (b : Board S) (scl : Bool) (ms : List Move) (answer : Bool) (byte : ℕ) (o : Option Transfer) → b.bus.phase ≡ ph → ms ≡ []
+      → Tied ph scl answer byte o → Went b scl b.part ms answer byte o
   stays ph b scl ms answer byte o e n t = silent b scl b.part ms answer byte o n refl (rw e t)
 
-  pub fall_went : (ph : Phase) (b : Board S) (l : Levels) (answer : Bool) (byte : ℕ) (o : Option Transfer) → b.bus.phase ≡ ph → Tied ph true answer byte o → Went (fall_at ops ph b) false b.part (told fell l o) answer byte o
+  pub fall_went : (ph : Phase) (b : Board S) (l : Levels) (answer : Bool) (byte : ℕ) (o : Option Transfer) → b.bus.phase ≡ ph → Tied ph true answer byte o
+      → Went (fall_at ops ph b) false b.part (told fell l o) answer byte o
   fall_went Closed b l answer byte o e h = stays Closed b false _ answer byte o e (rw h refl) h
   fall_went Deaf b l answer byte o e h =
       let d = dead_fall l answer byte o h.t h.is h.dead in
@@ -185,7 +197,8 @@ module _ {S : Type 0} (ops : Ops S) where
       by true e = rw (h (eqb-true _ 7 e)) refl
       by false e = refl
 
-  offers : (l : Levels) (w : Bool) (o : Option Transfer) (t : Transfer) (x : ℕ) → o ≡ Some t → length t.bits ≡ 7 → sending t.bytes ≡ true → x ≡ value (w ∷ t.bits) → told (rose w) l o ≡ offered l t.bytes x ∷ []
+  offers : (l : Levels) (w : Bool) (o : Option Transfer) (t : Transfer) (x : ℕ) → o ≡ Some t → length t.bits ≡ 7 → sending t.bytes ≡ true → x ≡ value (w ∷ t.bits)
+      → told (rose w) l o ≡ offered l t.bytes x ∷ []
   offers l w o t x is e s v = rw (is, e, s, v) refl
 
   one_bit : (w pulled : Bool) (o : Option Transfer) (t : Transfer) → o ≡ Some t → length t.bits < 8 → rising w pulled o ≡ Some (transfer t.bytes (w ∷ t.bits))
@@ -198,7 +211,8 @@ module _ {S : Type 0} (ops : Ops S) where
   the_ninth w pulled o t is h = rw (is, le-ltb (length t.bits) 8 (omega (arith, h))) refl
 
   -- a byte that is not acknowledged
-  lost : (scl answer : Bool) (byte : ℕ) (o : Option Transfer) (x : Byte) (bs : List Byte) → o ≡ Some (transfer (x ∷ bs) []) → all_acked (x ∷ bs) ≡ false → (sending bs ≡ true → answer ≡ false) → Deafened true answer byte o
+  lost : (scl answer : Bool) (byte : ℕ) (o : Option Transfer) (x : Byte) (bs : List Byte) → o ≡ Some (transfer (x ∷ bs) []) → all_acked (x ∷ bs) ≡ false
+      → (sending bs ≡ true → answer ≡ false) → Deafened true answer byte o
   lost scl answer byte o x bs is h q = record { t = transfer (x ∷ bs) []; is = is; dead = inl (h, by (sending bs) q) }
     where
       by : (b : Bool) → (b ≡ true → answer ≡ false) → pulls_in (cond b ack free) answer byte ≡ false
@@ -208,7 +222,8 @@ module _ {S : Type 0} (ops : Ops S) where
   dead_high : (t : Transfer) (answer : Bool) (byte : ℕ) (w : Bool) → all_acked t.bytes ≡ false → Dead true answer byte (transfer t.bytes (w ∷ t.bits))
   dead_high t answer byte w h = inl (h, ap (λ z. pulls_in z answer byte) (unpulled_high t.bytes w t.bits (and_left (all_acked t.bytes) _ h)))
 
-  dead_rise_by : (q : Bool) (w pulled answer : Bool) (byte : ℕ) (o : Option Transfer) (t : Transfer) → o ≡ Some t → ltb (length t.bits) 8 ≡ q → all_acked t.bytes ≡ false → Deafened true answer byte (rising w pulled o)
+  dead_rise_by : (q : Bool) (w pulled answer : Bool) (byte : ℕ) (o : Option Transfer) (t : Transfer) → o ≡ Some t → ltb (length t.bits) 8 ≡ q → all_acked t.bytes ≡ false
+      → Deafened true answer byte (rising w pulled o)
   dead_rise_by true w pulled answer byte o t is e h = record { t = transfer t.bytes (w ∷ t.bits); is = one_bit w pulled o t is (ltb-true _ 8 e); dead = dead_high t answer byte w h }
   dead_rise_by false w pulled answer byte o t is e h =
       let gone : rising w pulled o ≡ Some (transfer (ninth_of w pulled t ∷ t.bytes) []) = rw (is, e) refl in
@@ -217,7 +232,8 @@ module _ {S : Type 0} (ops : Ops S) where
   sent_odd : (bs : List Byte) → sending bs ≡ true → reading bs ≡ false
   sent_odd bs h = not-true _ (and_parts (all_acked bs) _ h).1
 
-  dead_rise : (w : Bool) (l : Levels) (answer : Bool) (byte : ℕ) (o : Option Transfer) (t : Transfer) → o ≡ Some t → Dead false answer byte t → (told (rose w) l o ≡ []) × Deafened true answer byte (rising w false o)
+  dead_rise : (w : Bool) (l : Levels) (answer : Bool) (byte : ℕ) (o : Option Transfer) (t : Transfer) → o ≡ Some t → Dead false answer byte t
+      → (told (rose w) l o ≡ []) × Deafened true answer byte (rising w false o)
   dead_rise w l answer byte o t is (inl d) = (no_offer l w o t is (λ z. and_left (all_acked t.bytes) _ d.0), dead_rise_by (ltb (length t.bits) 8) w false answer byte o t is refl d.0)
   dead_rise w l answer byte o t is (inr d) =
       let x = ninth_of w false t in
@@ -225,32 +241,40 @@ module _ {S : Type 0} (ops : Ops S) where
       (no_offer l w o t is (λ z. absurd (omega (arith, d.0, z))), lost true answer byte _ x t.bytes (the_ninth w false o t is d.0) unacked (λ z. d.2))
 
   -- a whole byte
-  due_after : (odd-address : Bool) (answer : Bool) (o : Option Transfer) (t : Transfer) (x : ℕ) → o ≡ Some t → length t.bits ≡ 8 → sending t.bytes ≡ true → answer ≡ true → t.bytes ≡ [] → value t.bits ≡ x → odd x ≡ odd-address → Due (cond odd-address (ThenGiven x) (ThenFirst x)) answer o
+  due_after : (odd-address : Bool) (answer : Bool) (o : Option Transfer) (t : Transfer) (x : ℕ) → o ≡ Some t → length t.bits ≡ 8 → sending t.bytes ≡ true → answer ≡ true
+      → t.bytes ≡ [] → value t.bits ≡ x → odd x ≡ odd-address → Due (cond odd-address (ThenGiven x) (ThenFirst x)) answer o
   due_after true answer o t x is long sends ok none v e = record { t = t; is = is; long = long; sends = sends; answered = ok; follows = (none, v, e) }
   due_after false answer o t x is long sends ok none v e = record { t = t; is = is; long = long; sends = sends; answered = ok; follows = (none, v, e) }
 
   deaf_now : (answer : Bool) (byte : ℕ) (o : Option Transfer) (t : Transfer) → o ≡ Some t → length t.bits ≡ 8 → sending t.bytes ≡ true → answer ≡ false → Deafened true answer byte o
   deaf_now answer byte o t is long sends h = record { t = t; is = is; dead = inr (long, sends, h) }
 
-  addressed_went : (r : Bool) (b : Board S) (l : Levels) (x : ℕ) (answer : Bool) (byte : ℕ) (o : Option Transfer) (t : Transfer) → ops.hears b.part x ≡ r → o ≡ Some t → length t.bits ≡ 8 → sending t.bytes ≡ true → t.bytes ≡ [] → value t.bits ≡ x → Went (addressed ops r b x) true b.part (addressing x ∷ []) answer byte o
+  addressed_went : (r : Bool) (b : Board S) (l : Levels) (x : ℕ) (answer : Bool) (byte : ℕ) (o : Option Transfer) (t : Transfer) → ops.hears b.part x ≡ r → o ≡ Some t
+      → length t.bits ≡ 8 → sending t.bytes ≡ true → t.bytes ≡ [] → value t.bits ≡ x → Went (addressed ops r b x) true b.part (addressing x ∷ []) answer byte o
   addressed_went true b l x answer byte o t h is long sends none v = record { tied = due_tied (odd x) refl; part = refl }
     where
       due_tied : (p : Bool) → odd x ≡ p → Tied (AckDue (cond p (ThenGiven x) (ThenFirst x))) true (ops.hears b.part x) byte o
       due_tied p e = (refl, due_after p _ o t x is long sends h none v e)
   addressed_went false b l x answer byte o t h is long sends none v = record { tied = deaf_now _ byte o t is long sends h; part = refl }
 
-  aimed_went : (r : Bool) (b : Board S) (a : ℕ) (l : Levels) (x : ℕ) (answer : Bool) (byte : ℕ) (o : Option Transfer) (t : Transfer) → ops.aims b.part a l x ≡ r → o ≡ Some t → length t.bits ≡ 8 → sending t.bytes ≡ true → some_byte t.bytes ≡ true → address t.bytes ≡ a → Went (aimed ops r b a l x) true b.part (aiming a l x ∷ []) answer byte o
+  aimed_went : (r : Bool) (b : Board S) (a : ℕ) (l : Levels) (x : ℕ) (answer : Bool) (byte : ℕ) (o : Option Transfer) (t : Transfer) → ops.aims b.part a l x ≡ r
+      → o ≡ Some t → length t.bits ≡ 8 → sending t.bytes ≡ true → some_byte t.bytes ≡ true → address t.bytes ≡ a
+      → Went (aimed ops r b a l x) true b.part (aiming a l x ∷ []) answer byte o
   aimed_went true b a l x answer byte o t h is long sends some e = record { tied = (refl, record { t = t; is = is; long = long; sends = sends; answered = h; follows = (some, e) }); part = refl }
   aimed_went false b a l x answer byte o t h is long sends some e = record { tied = deaf_now _ byte o t is long sends h; part = refl }
 
-  taken_went : (r : Bool) (b : Board S) (a : ℕ) (l : Levels) (x : ℕ) (answer : Bool) (byte : ℕ) (o : Option Transfer) (t : Transfer) → ops.takes b.part a l x ≡ r → o ≡ Some t → length t.bits ≡ 8 → sending t.bytes ≡ true → some_byte t.bytes ≡ true → address t.bytes ≡ a → Went (taken ops r b a l x) true b.part (taking a l x ∷ []) answer byte o
+  taken_went : (r : Bool) (b : Board S) (a : ℕ) (l : Levels) (x : ℕ) (answer : Bool) (byte : ℕ) (o : Option Transfer) (t : Transfer) → ops.takes b.part a l x ≡ r
+      → o ≡ Some t → length t.bits ≡ 8 → sending t.bytes ≡ true → some_byte t.bytes ≡ true → address t.bytes ≡ a
+      → Went (taken ops r b a l x) true b.part (taking a l x ∷ []) answer byte o
   taken_went true b a l x answer byte o t h is long sends some e = record { tied = (refl, record { t = t; is = is; long = long; sends = sends; answered = h; follows = (some, e) }); part = refl }
   taken_went false b a l x answer byte o t h is long sends some e = record { tied = deaf_now _ byte o t is long sends h; part = refl }
 
   abbrev with_eighth : Bool → Transfer → Transfer
   with_eighth w t = transfer t.bytes (w ∷ t.bits)
 
-  whole_went : (kind : Kind) (b : Board S) (w : Bool) (l : Levels) (x : ℕ) (answer : Bool) (byte : ℕ) (o p : Option Transfer) (t : Transfer) → o ≡ Some t → p ≡ Some (with_eighth w t) → length t.bits ≡ 7 → sending t.bytes ≡ true → Fits kind t.bytes → x ≡ value (w ∷ t.bits) → Went (whole ops kind b l x) true b.part (told (rose w) l o) answer byte p
+  whole_went : (kind : Kind) (b : Board S) (w : Bool) (l : Levels) (x : ℕ) (answer : Bool) (byte : ℕ) (o p : Option Transfer) (t : Transfer) → o ≡ Some t
+      → p ≡ Some (with_eighth w t) → length t.bits ≡ 7 → sending t.bytes ≡ true → Fits kind t.bytes → x ≡ value (w ∷ t.bits)
+      → Went (whole ops kind b l x) true b.part (told (rose w) l o) answer byte p
   whole_went Address b w l x answer byte o p t is then long sends fits v =
       let say : told (rose w) l o ≡ addressing x ∷ [] = offers l w o t x is long sends v ∙ ap (λ bs. offered l bs x ∷ []) fits in
       rw say (addressed_went (ops.hears b.part x) b l x answer byte p (with_eighth w t) refl then (omega (arith, long)) sends fits (sym v))
@@ -258,15 +282,19 @@ module _ {S : Type 0} (ops : Ops S) where
       let say : told (rose w) l o ≡ aiming a l x ∷ [] = offers l w o t x is long sends v ∙ ap (λ bs. offered l bs x ∷ []) fits.1 ∙ ap (λ z. aiming z l x ∷ []) fits.2 in
       rw say (aimed_went (ops.aims b.part a l x) b a l x answer byte p (with_eighth w t) refl then (omega (arith, long)) sends (ap some_byte fits.1) (ap address fits.1 ∙ fits.2))
   whole_went (Later a) b w l x answer byte o p t is then long sends fits v =
-      let say : told (rose w) l o ≡ taking a l x ∷ [] = offers l w o t x is long sends v ∙ ap (λ bs. offered l bs x ∷ []) fits.1.1.1 ∙ ap (λ z. taking z l x ∷ []) (ap address (sym fits.1.1.1) ∙ fits.1.1.2) in
+      let say : told (rose w) l o ≡ taking a l x ∷ [] = offers l w o t x is long sends v ∙ ap (λ bs. offered l bs x ∷ []) fits.1.1.1
+          ∙ ap (λ z. taking z l x ∷ []) (ap address (sym fits.1.1.1) ∙ fits.1.1.2) in
       rw say (taken_went (ops.takes b.part a l x) b a l x answer byte p (with_eighth w t) refl then (omega (arith, long)) sends (ap some_byte fits.1.1.1) fits.1.1.2)
 
-  bit_went : (q : Bool) (kind : Kind) (b : Board S) (w : Bool) (l : Levels) (bits so-far : ℕ) (pulled answer : Bool) (byte : ℕ) (o : Option Transfer) → ltb bits 7 ≡ q → Coming false kind bits so-far o → Went (bit_taken ops q b kind bits l (so-far % 128 * 2 + bit_value w)) true b.part (told (rose w) l o) answer byte (rising w pulled o)
+  bit_went : (q : Bool) (kind : Kind) (b : Board S) (w : Bool) (l : Levels) (bits so-far : ℕ) (pulled answer : Bool) (byte : ℕ) (o : Option Transfer) → ltb bits 7 ≡ q
+      → Coming false kind bits so-far o
+      → Went (bit_taken ops q b kind bits l (so-far % 128 * 2 + bit_value w)) true b.part (told (rose w) l o) answer byte (rising w pulled o)
   bit_went true kind b w l bits so-far pulled answer byte o e c =
       let lt = ltb-true bits 7 e in
       let small = value_small c.t.bits (omega (arith, c.long, c.few)) in
       silent _ true b.part _ answer byte _ (no_offer l w o c.t c.is (λ z. absurd (omega (arith, c.long, z)))) refl
-      (record { t = with_eighth w c.t; is = one_bit w pulled o c.t c.is (omega (arith, c.long)); long = omega (arith, c.long); few = omega arith; reads = omega (arith, c.reads, small); sends = c.sends; fits = c.fits; unpulled = unpulled_high c.t.bytes w c.t.bits (not_giving c.t.bytes c.sends) })
+      (record { t = with_eighth w c.t; is = one_bit w pulled o c.t c.is (omega (arith, c.long)); long = omega (arith, c.long); few = omega arith;
+          reads = omega (arith, c.reads, small); sends = c.sends; fits = c.fits; unpulled = unpulled_high c.t.bytes w c.t.bits (not_giving c.t.bytes c.sends) })
   bit_went false kind b w l bits so-far pulled answer byte o e c =
       let le = ltb-false bits 7 e in
       let few = c.few in
@@ -275,7 +303,8 @@ module _ {S : Type 0} (ops : Ops S) where
       whole_went kind b w l _ answer byte o (rising w pulled o) c.t c.is (one_bit w pulled o c.t c.is (omega (arith, long))) long c.sends c.fits (omega (arith, c.reads, small))
 
   -- the ninth bit of a byte given
-  asked : (w : Bool) (b : Board S) (l : Levels) (pulled answer : Bool) (byte a : ℕ) (o : Option Transfer) → Ninth a o → Went (with b (cond w Deaf (Wanted a)) b.part) true b.part (told (rose w) l o) answer byte (rising w pulled o)
+  asked : (w : Bool) (b : Board S) (l : Levels) (pulled answer : Bool) (byte a : ℕ) (o : Option Transfer) → Ninth a o
+      → Went (with b (cond w Deaf (Wanted a)) b.part) true b.part (told (rose w) l o) answer byte (rising w pulled o)
   asked true b l pulled answer byte a o n =
       let x = ninth_of true pulled n.t in
       let g = and_parts (all_acked n.t.bytes) _ n.given in
@@ -290,15 +319,19 @@ module _ {S : Type 0} (ops : Ops S) where
       silent _ true b.part _ answer byte _ (no_offer l false o n.t n.is (λ z. absurd (omega (arith, n.long, z)))) refl
       (refl, record { x = x; bs = n.t.bytes; is = the_ninth false pulled o n.t n.is n.long; given = and_from _ _ acked (ap odd same ∙ g.1); before = n.given; from = same ∙ n.from })
 
-  given_rise : (b : Board S) (w : Bool) (l : Levels) (pulled answer : Bool) (byte a rises left : ℕ) (out : Bool) (o : Option Transfer) → Gives false byte a rises left out o → Went (with b (Giving a (cond (ltb rises 8) (rises + 1) rises) left out) b.part) true b.part (told (rose w) l o) answer byte (rising w pulled o)
+  given_rise : (b : Board S) (w : Bool) (l : Levels) (pulled answer : Bool) (byte a rises left : ℕ) (out : Bool) (o : Option Transfer)
+      → Gives false byte a rises left out o
+      → Went (with b (Giving a (cond (ltb rises 8) (rises + 1) rises) left out) b.part) true b.part (told (rose w) l o) answer byte (rising w pulled o)
   given_rise b w l pulled answer byte a rises left out o g =
       let at : rises ≡ g.n = g.at in
       let few = g.few in
       let lt : rises < 8 = omega arith in
       silent _ true b.part _ answer byte _ (no_offer l w o g.t g.is (λ z. not_sending g.t.bytes g.given)) refl
-      (rw (lt-ltb rises 8 lt) (record { t = with_eighth w g.t; is = one_bit w pulled o g.t g.is (omega (arith, g.long)); given = g.given; from = g.from; n = g.n; few = g.few; at = omega arith; long = omega (arith, g.long); shifts = g.shifts }))
+      (rw (lt-ltb rises 8 lt) (record { t = with_eighth w g.t; is = one_bit w pulled o g.t g.is (omega (arith, g.long)); given = g.given; from = g.from; n = g.n;
+          few = g.few; at = omega arith; long = omega (arith, g.long); shifts = g.shifts }))
 
-  pub rise_went : (ph : Phase) (b : Board S) (w : Bool) (l : Levels) (answer : Bool) (byte : ℕ) (o : Option Transfer) → b.bus.phase ≡ ph → Tied ph false answer byte o → Went (rise_at ops ph b w l) true b.part (told (rose w) l o) answer byte (rising w (pulls_by false o answer byte) o)
+  pub rise_went : (ph : Phase) (b : Board S) (w : Bool) (l : Levels) (answer : Bool) (byte : ℕ) (o : Option Transfer) → b.bus.phase ≡ ph → Tied ph false answer byte o
+      → Went (rise_at ops ph b w l) true b.part (told (rose w) l o) answer byte (rising w (pulls_by false o answer byte) o)
   rise_went Closed b w l answer byte o e h = stays Closed b true _ answer byte _ e (rw h refl) (rw h refl)
   rise_went Deaf b w l answer byte o e h =
       let d = dead_rise w l answer byte o h.t h.is h.dead in

@@ -50,8 +50,10 @@ module _ {S : Type 0} (ops : Ops S) (keeps : Keeps ops) (number : S → ℕ) (se
       let l = levels x in
       let moves : c.part ≡ after ops b.part (levelling l ∷ told (edge_of ops b (Sample x) c) l h.opened) = a.part ∙ ap (after ops b.part) (cond-true _ _ _ e) in
       elim (is_stopped (edge_of ops b (Sample x) c)) [
-        | inl st ↦ stops l refl (ap see (moves ∙ ap (λ z. after ops b.part (levelling l ∷ told z l h.opened)) st) ∙ seat.stop (ops.level b.part l) (clean h.opened) l ∙ ap (λ z. x9520.stop z (clean h.opened) l) (seat.level b.part l)) st (λ z. z)
-        | inr n ↦ calm (subst (λ u. CalmMove (see b.part) (see u)) (sym moves) (calm_after ops keeps number see seat (levelling l ∷ told (edge_of ops b (Sample x) c) l h.opened) b.part (tt, told_calm _ l h.opened n))) n (λ z. z)
+        | inl st ↦ stops l refl (ap see (moves ∙ ap (λ z. after ops b.part (levelling l ∷ told z l h.opened)) st) ∙ seat.stop (ops.level b.part l) (clean h.opened) l
+            ∙ ap (λ z. x9520.stop z (clean h.opened) l) (seat.level b.part l)) st (λ z. z)
+        | inr n ↦ calm (subst (λ u. CalmMove (see b.part) (see u)) (sym moves)
+            (calm_after ops keeps number see seat (levelling l ∷ told (edge_of ops b (Sample x) c) l h.opened) b.part (tt, told_calm _ l h.opened n))) n (λ z. z)
       ]
   sample_event false b x c h e a = same_event b (Sample x) c h (a.refused e) (edge_same b.bus.scl b.bus.sda) (λ z. z)
 
@@ -80,15 +82,18 @@ module _ {S : Type 0} (ops : Ops S) (keeps : Keeps ops) (number : S → ℕ) (se
   moves_sendable b (Cut p) c o = (tt, tt)
 
   -- the chip's place, over each call
-  place_sample : (t : Bool) (b : Board S) (x : ℕ) (c : Board S) (h : History) → ltb x 32 ≡ t → Advances ops b (Sample x) c h → Open ops keeps number see seat h.answer h.opened b.part → let n = onward ops b (Sample x) c h in Open ops keeps number see seat n.answer n.opened c.part
+  place_sample : (t : Bool) (b : Board S) (x : ℕ) (c : Board S) (h : History) → ltb x 32 ≡ t → Advances ops b (Sample x) c h
+      → Open ops keeps number see seat h.answer h.opened b.part → let n = onward ops b (Sample x) c h in Open ops keeps number see seat n.answer n.opened c.part
   place_sample true b x c h e a p =
       let l = levels x in
-      let u = open_edge ops keeps number see seat b.bus.scl c.bus.scl b.bus.sda c.bus.sda l h.answer h.byte h.opened (ops.level b.part l) (open_kept ops keeps number see seat h.answer h.opened b.part _ (level_keeping ops keeps number see seat b.part l) p) in
+      let u = open_edge ops keeps number see seat b.bus.scl c.bus.scl b.bus.sda c.bus.sda l h.answer h.byte h.opened (ops.level b.part l)
+          (open_kept ops keeps number see seat h.answer h.opened b.part _ (level_keeping ops keeps number see seat b.part l) p) in
       rw (a.part, e) u
   place_sample false b x c h e a p =
       subst (λ d. let n = onward ops b (Sample x) d h in Open ops keeps number see seat n.answer n.opened d.part) (sym (a.refused e)) (rw e (kept b.bus.scl b.bus.sda p))
     where
-      kept : (q d : Bool) → Open ops keeps number see seat h.answer h.opened b.part → Open ops keeps number see seat h.answer (next (edge q q d d) (pulls_by b.bus.scl h.opened h.answer h.byte) h.opened) b.part
+      kept : (q d : Bool) → Open ops keeps number see seat h.answer h.opened b.part
+          → Open ops keeps number see seat h.answer (next (edge q q d d) (pulls_by b.bus.scl h.opened h.answer h.byte) h.opened) b.part
       kept true true z = z
       kept true false z = z
       kept false d z = z
@@ -102,11 +107,13 @@ module _ {S : Type 0} (ops : Ops S) (keeps : Keeps ops) (number : S → ℕ) (se
   finish_keeping : (s : S) (q : ℕ) → Keeping ops keeps number see seat s (ops.finish s q)
   finish_keeping s q = record { mode = finish_mode s q; owner = (keeps.finishes s q).fixed.owner; number_is = seat.fixed s (finishing q) }
 
-  place_finish : (t : Bool) (b : Board S) (q : ℕ) (c : Board S) (h : History) → (numbered ops b q && ops.busy b.part q) ≡ t → Advances ops b (Finish q) c h → Open ops keeps number see seat h.answer h.opened b.part → let n = onward ops b (Finish q) c h in Open ops keeps number see seat n.answer n.opened c.part
+  place_finish : (t : Bool) (b : Board S) (q : ℕ) (c : Board S) (h : History) → (numbered ops b q && ops.busy b.part q) ≡ t → Advances ops b (Finish q) c h
+      → Open ops keeps number see seat h.answer h.opened b.part → let n = onward ops b (Finish q) c h in Open ops keeps number see seat n.answer n.opened c.part
   place_finish true b q c h e a p = rw (a.part, e) (open_kept ops keeps number see seat h.answer h.opened b.part _ (finish_keeping b.part q) p)
   place_finish false b q c h e a p = subst (λ d. let n = onward ops b (Finish q) d h in Open ops keeps number see seat n.answer n.opened d.part) (sym (a.refused e)) (rw e p)
 
-  place_call : (b : Board S) (call : Call) (c : Board S) (h : History) → Advances ops b call c h → Open ops keeps number see seat h.answer h.opened b.part → let n = onward ops b call c h in Open ops keeps number see seat n.answer n.opened c.part
+  place_call : (b : Board S) (call : Call) (c : Board S) (h : History) → Advances ops b call c h → Open ops keeps number see seat h.answer h.opened b.part
+      → let n = onward ops b call c h in Open ops keeps number see seat n.answer n.opened c.part
   place_call b (Sample x) c h a p = place_sample (ltb x 32) b x c h refl a p
   place_call b (Finish q) c h a p = place_finish _ b q c h refl a p
   place_call b (Cut w) c h a p = λ t e. absurd (not_open e)
@@ -173,7 +180,8 @@ module _ {S : Type 0} (ops : Ops S) (keeps : Keeps ops) (number : S → ℕ) (se
         let one : length t.bits ≡ 1 = Rattle.std.proofs.lemmas.Bool.eqb-true _ 1 p.0 in
         subst (By ops keeps number see seat (B n).part) (one_rise ops keeps t c) ((placed n t e).by (a.1, λ z s. absurd (omega (arith, one, z))))
 
-    holds_at : (n v : ℕ) (bs : List Byte) → some_byte bs ≡ true → By ops keeps number see seat (B n).part (values bs) → where_is (C n).mode ≡ holding v → (values bs ≡ v ∷ (255 ∷ (164 ∷ []))) × (ops.owner (B n).part 82 ≡ Some (number b.part))
+    holds_at : (n v : ℕ) (bs : List Byte) → some_byte bs ≡ true → By ops keeps number see seat (B n).part (values bs) → where_is (C n).mode ≡ holding v
+        → (values bs ≡ v ∷ (255 ∷ (164 ∷ []))) × (ops.owner (B n).part 82 ≡ Some (number b.part))
     holds_at n v [] some r h = absurd (clash some)
     holds_at n v (x ∷ bs) some r h =
         let a = addr (values (x ∷ bs)) in
@@ -182,7 +190,8 @@ module _ {S : Type 0} (ops : Ops S) (keeps : Keeps ops) (number : S → ℕ) (se
           | inr o ↦ apart outside (holding v) (sym (ap where_is (r.aside o)) ∙ h) (λ z. omega (arith, z))
         ]
       where
-        by : (q : Bool) → odd (addr (values (x ∷ bs))) ≡ q → My ops keeps number see seat (B n).part (addr (values (x ∷ bs)) / 2) → (values (x ∷ bs) ≡ v ∷ (255 ∷ (164 ∷ []))) × (ops.owner (B n).part 82 ≡ Some (number b.part))
+        by : (q : Bool) → odd (addr (values (x ∷ bs))) ≡ q → My ops keeps number see seat (B n).part (addr (values (x ∷ bs)) / 2)
+            → (values (x ∷ bs) ≡ v ∷ (255 ∷ (164 ∷ []))) × (ops.owner (B n).part 82 ≡ Some (number b.part))
         by true e m = apart outside (holding v) (sym (r.reading m e) ∙ h) (λ z. omega (arith, z))
         by false e m =
             let is = bytes_held (values (x ∷ bs)) v (sym (r.writing m e) ∙ h) in
@@ -197,7 +206,8 @@ module _ {S : Type 0} (ops : Ops S) (keeps : Keeps ops) (number : S → ℕ) (se
         let r = holds_at n v t.bytes p.0 (by_at n t w.1.0 w.1.1) h in
         record { t = t; opened = w.1.0; clean_is = w.1.1; bytes = r.0; acked = each_pulled t.bytes p.1 (ap odd (sym (addr_is t.bytes) ∙ ap addr r.0)); mine = r.1 }
 
-    pub held_by : (n v : ℕ) (t : Transfer) → (H n).opened ≡ Some t → is_clean t ≡ true → values t.bytes ≡ v ∷ (255 ∷ (164 ∷ [])) → ops.owner (B n).part 82 ≡ Some (number b.part) → where_is (C n).mode ≡ holding v
+    pub held_by : (n v : ℕ) (t : Transfer) → (H n).opened ≡ Some t → is_clean t ≡ true → values t.bytes ≡ v ∷ (255 ∷ (164 ∷ []))
+        → ops.owner (B n).part 82 ≡ Some (number b.part) → where_is (C n).mode ≡ holding v
     held_by n v t e c is mine =
         let r : At ops keeps number see seat (B n).part 164 (v ∷ (255 ∷ (164 ∷ []))) = subst (By ops keeps number see seat (B n).part) is (by_at n t e c) in
         r.writing (mine ∙ ap Some (sym (number_is n))) refl

@@ -55,7 +55,8 @@ module _ {S : Type 0} (ops : Ops S) (keeps : Keeps ops) (number : S → ℕ) (se
   -- a thing that a register byte locks, from state p to state q: what is the same of it, and what keeps that
   module _ (lock : ℕ → Bool) (Same : X9520 → Type 0) (p q : ℕ)
       (same_calm : (c d : X9520) → CalmMove c d → lock (stored_register c) ≡ true → Same c → Same d)
-      (same_stop : (c : X9520) (clean : Bool) (l : Rattle.part.specs.declared.levels.Levels.Levels) → Guarded c → lock (stored_register c) ≡ true → Same c → Same (x9520.stop (x9520.level c l) clean l))
+      (same_stop : (c : X9520) (clean : Bool) (l : Rattle.part.specs.declared.levels.Levels.Levels) → Guarded c → lock (stored_register c) ≡ true → Same c
+          → Same (x9520.stop (x9520.level c l) clean l))
       (same_finish : (c : X9520) → Same c → Same (x9520.finish c 0))
       (same_cut : (n : ℕ) → p ≤ n → n < q → IsCut (calls n) → (c : X9520) (w : PowerCut) → Same c → Same (x9520.cut c w)) where
     -- it is the same and still locked, and a register byte under way locks it too
@@ -89,7 +90,9 @@ module _ {S : Type 0} (ops : Ops S) (keeps : Keeps ops) (number : S → ℕ) (se
         }
 
     -- the STOP of a byte that unlocks
-    opens : (n v : ℕ) → p ≤ n → IsStop ops keeps number see seat b closed new calls n → (IsCut (calls n) → ⊥) → clean_at ops keeps number see seat b closed new calls n ≡ true → wp_of (calls n) ≡ false → (C n).mode ≡ Storing v → (C n).latches.rwel ≡ true → lock v ≡ false → Op (suc n)
+    opens : (n v : ℕ) → p ≤ n → IsStop ops keeps number see seat b closed new calls n → (IsCut (calls n) → ⊥)
+        → clean_at ops keeps number see seat b closed new calls n ≡ true → wp_of (calls n) ≡ false → (C n).mode ≡ Storing v → (C n).latches.rwel ≡ true → lock v ≡ false
+        → Op (suc n)
     opens n v lo st nc cl low m armed f =
         let a : Armed ops keeps number see seat b closed new calls n = (known ops keeps number see seat b closed new calls n).rwel armed in
         let w : Writes n v = writes ops keeps number see seat b closed new calls n v st cl (ap where_is m) (rw low refl) in
@@ -120,7 +123,8 @@ module _ {S : Type 0} (ops : Ops S) (keeps : Keeps ops) (number : S → ℕ) (se
     stored_lock old new_byte o (inl e) h g = ap lock e ∙ h
     stored_lock old new_byte o (inr e) h g = g new_byte e
 
-    coming_at : (o : Option ℕ) (t : Bool) (n : ℕ) (c : X9520) → under_at c.eeprom 259 ≡ o → ((v : ℕ) → o ≡ Some v → (lock v ≡ true) ⊎ Op (suc n)) → Op (suc n) ⊎ ((v : ℕ) → under_at c.eeprom 259 ≡ Some v → lock v ≡ true)
+    coming_at : (o : Option ℕ) (t : Bool) (n : ℕ) (c : X9520) → under_at c.eeprom 259 ≡ o → ((v : ℕ) → o ≡ Some v → (lock v ≡ true) ⊎ Op (suc n))
+        → Op (suc n) ⊎ ((v : ℕ) → under_at c.eeprom 259 ≡ Some v → lock v ≡ true)
     coming_at None t n c e f = inr (λ v u. absurd (none_some e u))
     coming_at (Some v) t n c e f = elim (f v refl) [
       | inl h ↦ inr (λ u g. (let z : v ≡ u = (let y : ◌≡◌ {A = Option ℕ} (Some v) (Some u) = sym e ∙ g in (let x : v ≡ u = cc in x)) in subst (λ i. lock i ≡ true) z h))
@@ -131,7 +135,9 @@ module _ {S : Type 0} (ops : Ops S) (keeps : Keeps ops) (number : S → ℕ) (se
     either_way true n v e f = inl e
     either_way false n v e f = inr (f e)
 
-    shut_stop : (n : ℕ) (l : Rattle.part.specs.declared.levels.Levels.Levels) → p ≤ n → wp_of (calls n) ≡ l.wp → C (suc n) ≡ x9520.stop (x9520.level (C n) l) (clean_at ops keeps number see seat b closed new calls n) l → IsStop ops keeps number see seat b closed new calls n → (IsCut (calls n) → ⊥) → Shut (C n) → Op (suc n) ⊎ Shut (C (suc n))
+    shut_stop : (n : ℕ) (l : Rattle.part.specs.declared.levels.Levels.Levels) → p ≤ n → wp_of (calls n) ≡ l.wp
+        → C (suc n) ≡ x9520.stop (x9520.level (C n) l) (clean_at ops keeps number see seat b closed new calls n) l → IsStop ops keeps number see seat b closed new calls n
+        → (IsCut (calls n) → ⊥) → Shut (C n) → Op (suc n) ⊎ Shut (C (suc n))
     shut_stop n l lo low is st nc r =
         let cl = clean_at ops keeps number see seat b closed new calls n in
         let d = x9520.stop (x9520.level (C n) l) cl l in
@@ -150,8 +156,12 @@ module _ {S : Type 0} (ops : Ops S) (keeps : Keeps ops) (number : S → ℕ) (se
     shut_event : (n : ℕ) → p ≤ n → n < q → Event ops keeps number see seat (B n) (calls n) (B (suc n)) (history ops b calls n) → Shut (C n) → Op (suc n) ⊎ Shut (C (suc n))
     shut_event n lo hi (calm m f c) r = inr (record { same = same_calm (C n) _ m r.shut r.same; shut = ap lock (calm_register (C n) _ m) ∙ r.shut; coming = λ v u. r.coming v (sym (m.under 259) ∙ u) })
     shut_event n lo hi (stops l low is st c) r = shut_stop n l lo low is st c r
-    shut_event n lo hi (finishes is f c) r = inr (subst Shut (sym is) (record { same = same_finish (C n) r.same; shut = stored_lock _ _ _ (finish_either (C n) 259) r.shut r.coming; coming = λ v u. absurd (none_some (finish_under (C n) 259) u) }))
-    shut_event n lo hi (cuts w is f c) r = inr (subst Shut (sym is) (record { same = same_cut n lo hi c (C n) w r.same; shut = stored_lock _ _ _ (cut_either (C n) w 259) r.shut r.coming; coming = λ v u. absurd (none_some (cut_under (C n) w 259) u) }))
+    shut_event n lo hi (finishes is f c) r =
+        inr (subst Shut (sym is) (record { same = same_finish (C n) r.same; shut = stored_lock _ _ _ (finish_either (C n) 259) r.shut r.coming;
+            coming = λ v u. absurd (none_some (finish_under (C n) 259) u) }))
+    shut_event n lo hi (cuts w is f c) r =
+        inr (subst Shut (sym is) (record { same = same_cut n lo hi c (C n) w r.same; shut = stored_lock _ _ _ (cut_either (C n) w 259) r.shut r.coming;
+            coming = λ v u. absurd (none_some (cut_under (C n) w 259) u) }))
 
     one_on : (n : ℕ) → p ≤ n → n < q → Op n ⊎ Shut (C n) → Op (suc n) ⊎ Shut (C (suc n))
     one_on n lo hi (inl o) = inl (later n o)
@@ -191,7 +201,8 @@ module _ {S : Type 0} (ops : Ops S) (keeps : Keeps ops) (number : S → ℕ) (se
           | inr s ↦ inl (cell_is ops keeps number see seat b closed new calls q i ∙ s.0 ∙ sym (cell_is ops keeps number see seat b closed new calls p i))
         ]
 
-    locked_wiper : (j : ℕ) → locks_wipers (register ops b calls k p) ≡ true → ((n : ℕ) → p ≤ n → n < q → IsCut (calls n) → ⊥) → (ops.tap (B q).part k j ≡ ops.tap (B p).part k j) ⊎ Opened ops b calls k locks_wipers p q
+    locked_wiper : (j : ℕ) → locks_wipers (register ops b calls k p) ≡ true → ((n : ℕ) → p ≤ n → n < q → IsCut (calls n) → ⊥)
+        → (ops.tap (B q).part k j ≡ ops.tap (B p).part k j) ⊎ Opened ops b calls k locks_wipers p q
     locked_wiper j h no_cut = elim (unchanged locks_wipers (λ c. x9520.tap c 0 j ≡ x9520.tap (C p) 0 j) p q
         (λ c d m l s. m.wiper l j ∙ s)
         (λ c cl l g h s. stop_tap (x9520.level c l) cl l j ∙ s)

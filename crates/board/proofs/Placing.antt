@@ -168,7 +168,8 @@ module _ {S : Type 0} (ops : Ops S) (keeps : Keeps ops) (number : S → ℕ) (se
             record { writing = λ w z. absurd (not_mine w); reading = λ w z. absurd (not_mine w); aside = λ w. still })
       ]
 
-  pub offered_by : (l : Levels) (bs : List Byte) (x : ℕ) (s : S) (was : Bool) → sending bs ≡ true → By s (values bs) → answer_after ops s (offered l bs x ∷ []) was ≡ true → By (moved ops s (offered l bs x)) (x ∷ values bs)
+  pub offered_by : (l : Levels) (bs : List Byte) (x : ℕ) (s : S) (was : Bool) → sending bs ≡ true → By s (values bs) → answer_after ops s (offered l bs x ∷ []) was ≡ true
+      → By (moved ops s (offered l bs x)) (x ∷ values bs)
   offered_by l [] x s was sends h ack = address_by s x h ack
   offered_by l (y ∷ []) x s was sends h ack = aim_by s y.value l x y.value [] refl (not-true _ (and_parts _ _ sends).1) ack h
   offered_by l (y ∷ (z ∷ bs)) x s was sends h ack =
@@ -195,7 +196,8 @@ module _ {S : Type 0} (ops : Ops S) (keeps : Keeps ops) (number : S → ℕ) (se
         subst (By (moved ops s (offered l bs (value (w ∷ bits))))) (sym (so_far_at true bs (w ∷ bits) (eq-eqb _ _ (omega (arith, e))))) after_it);
   }
 
-  more_by : (q : Bool) (bs : List Byte) (bits : List Bool) (w : Bool) (answer : Bool) (s : S) → eqb (length bits) 7 ≡ q → length bits < 8 → (eqb (length bits) 7 && sending bs) ≡ false → Placed answer (transfer bs bits) s → Placed answer (transfer bs (w ∷ bits)) s
+  more_by : (q : Bool) (bs : List Byte) (bits : List Bool) (w : Bool) (answer : Bool) (s : S) → eqb (length bits) 7 ≡ q → length bits < 8
+      → (eqb (length bits) 7 && sending bs) ≡ false → Placed answer (transfer bs bits) s → Placed answer (transfer bs (w ∷ bits)) s
   more_by true bs bits w answer s e lt f p =
       let long = eqb-true _ 7 e in
       record {
@@ -218,7 +220,9 @@ module _ {S : Type 0} (ops : Ops S) (keeps : Keeps ops) (number : S → ℕ) (se
             subst (By s) (sym (so_far_at false bs (w ∷ bits) (ne_eqb _ _ (λ z. short (omega (arith, z)))))) before);
       }
 
-  ninth_by : (bs : List Byte) (bits : List Bool) (w pulled answer : Bool) (byte : ℕ) (s : S) → 8 ≤ length bits → pulled ≡ pulls_by false (Some (transfer bs bits)) answer byte → Placed answer (transfer bs bits) s → Placed answer (transfer (record { value = value bits; low = not w; pulled = pulled } ∷ bs) []) s
+  ninth_by : (bs : List Byte) (bits : List Bool) (w pulled answer : Bool) (byte : ℕ) (s : S) → 8 ≤ length bits
+      → pulled ≡ pulls_by false (Some (transfer bs bits)) answer byte → Placed answer (transfer bs bits) s
+      → Placed answer (transfer (record { value = value bits; low = not w; pulled = pulled } ∷ bs) []) s
   ninth_by bs bits w pulled answer byte s le is p =
       let few = p.few in
       let long : length bits ≡ 8 = omega arith in
@@ -227,25 +231,29 @@ module _ {S : Type 0} (ops : Ops S) (keeps : Keeps ops) (number : S → ℕ) (se
         few = omega arith;
         by = λ a. (
             let c = and_parts (all_acked bs) _ a.0 in
-            let answered : sending bs ≡ true → answer ≡ true = λ sends. sym (is ∙ ap (λ z. pulls_in z answer byte) (slot_low_sent (transfer bs bits) long sends)) ∙ ap (λ r. acked_by r x) (sym (not-true _ (and_parts (all_acked bs) _ sends).1)) ∙ c.1 in
+            let answered : sending bs ≡ true → answer ≡ true = λ sends. sym (is ∙ ap (λ z. pulls_in z answer byte) (slot_low_sent (transfer bs bits) long sends))
+                ∙ ap (λ r. acked_by r x) (sym (not-true _ (and_parts (all_acked bs) _ sends).1)) ∙ c.1 in
             subst (By s) (so_far_at true bs bits (eq-eqb _ _ long)) (p.by (c.0, λ z sends. answered sends)));
       }
 
   opened_as : (answer : Bool) (o : Option Transfer) (u : Transfer) (s : S) → o ≡ Some u → Placed answer u s → Open answer o s
   opened_as answer o u s e p t z = subst (λ v. Placed answer v s) (ap the (sym e ∙ z)) p
 
-  rose_by : (q r : Bool) (bs : List Byte) (bits : List Bool) (w pulled answer : Bool) (byte : ℕ) (l : Levels) (s : S) → (eqb (length bits) 7 && sending bs) ≡ q → ltb (length bits) 8 ≡ r → pulled ≡ pulls_by false (Some (transfer bs bits)) answer byte → Placed answer (transfer bs bits) s →
+  rose_by : (q r : Bool) (bs : List Byte) (bits : List Bool) (w pulled answer : Bool) (byte : ℕ) (l : Levels) (s : S) → (eqb (length bits) 7 && sending bs) ≡ q
+      → ltb (length bits) 8 ≡ r → pulled ≡ pulls_by false (Some (transfer bs bits)) answer byte → Placed answer (transfer bs bits) s →
       let ms = cond q (offered l bs (value (w ∷ bits)) ∷ []) [] in Open (answer_after ops s ms answer) (rising w pulled (Some (transfer bs bits))) (after ops s ms)
   rose_by true r bs bits w pulled answer byte l s e f is p =
       let c = and_parts (eqb (length bits) 7) _ e in
       let long = eqb-true _ 7 c.0 in
-      opened_as (answer_after ops s (offered l bs (value (w ∷ bits)) ∷ []) answer) _ (transfer bs (w ∷ bits)) (moved ops s (offered l bs (value (w ∷ bits)))) (rw (lt-ltb (length bits) 8 (omega (arith, long))) refl) (eighth bs bits w l answer s long c.1 p)
+      opened_as (answer_after ops s (offered l bs (value (w ∷ bits)) ∷ []) answer) _ (transfer bs (w ∷ bits)) (moved ops s (offered l bs (value (w ∷ bits))))
+          (rw (lt-ltb (length bits) 8 (omega (arith, long))) refl) (eighth bs bits w l answer s long c.1 p)
   rose_by false true bs bits w pulled answer byte l s e f is p =
       opened_as answer _ (transfer bs (w ∷ bits)) s (rw f refl) (more_by _ bs bits w answer s refl (ltb-true _ 8 f) e p)
   rose_by false false bs bits w pulled answer byte l s e f is p =
       opened_as answer _ (transfer (record { value = value bits; low = not w; pulled = pulled } ∷ bs) []) s (rw f refl) (ninth_by bs bits w pulled answer byte s (ltb-false _ 8 f) is p)
 
-  rose_open : (o : Option Transfer) (w : Bool) (answer : Bool) (byte : ℕ) (l : Levels) (s : S) → Open answer o s → Open (answer_after ops s (told (rose w) l o) answer) (rising w (pulls_by false o answer byte) o) (after ops s (told (rose w) l o))
+  rose_open : (o : Option Transfer) (w : Bool) (answer : Bool) (byte : ℕ) (l : Levels) (s : S) → Open answer o s
+      → Open (answer_after ops s (told (rose w) l o) answer) (rising w (pulls_by false o answer byte) o) (after ops s (told (rose w) l o))
   rose_open None w answer byte l s h = λ t e. absurd (not_open e)
   rose_open (Some t) w answer byte l s h = rose_by _ _ t.bytes t.bits w _ answer byte l s refl refl refl (h t refl)
 

@@ -95,7 +95,8 @@ module _ {S : Type 0} (ops : Ops S) where
   few_before : (e : Edge) (w : List Bool) → length (more_bits e w) ≤ 7 → length w ≤ 7
   few_before e w h = omega (arith, longer e w)
 
-  act_coming : (p q d w : Bool) (b : Board S) (l : Levels) (v : List Bool) → b.bus.phase ≡ coming v → (edge p q d w ≡ started → ⊥) → (edge p q d w ≡ stopped → ⊥) → length (more_bits (edge p q d w) v) ≤ 7 → (act ops p q d w (lower ops p q b) l).bus.phase ≡ coming (more_bits (edge p q d w) v)
+  act_coming : (p q d w : Bool) (b : Board S) (l : Levels) (v : List Bool) → b.bus.phase ≡ coming v → (edge p q d w ≡ started → ⊥) → (edge p q d w ≡ stopped → ⊥)
+      → length (more_bits (edge p q d w) v) ≤ 7 → (act ops p q d w (lower ops p q b) l).bus.phase ≡ coming (more_bits (edge p q d w) v)
   act_coming true true true true b l v e s t h = e
   act_coming true true true false b l v e s t h = absurd (s refl)
   act_coming true true false true b l v e s t h = absurd (t refl)
@@ -110,7 +111,9 @@ module _ {S : Type 0} (ops : Ops S) where
       ap (λ z. Taking Address z (value v % 128 * 2 + bit_value w)) x ∙ ap (Taking Address (suc (length v))) y)
   act_coming false false d w b l v e s t h = e
 
-  sample_coming : (t : Bool) (b : Board S) (x : ℕ) (v : List Bool) → let c = cond t (moved ops b x) b in b.bus.phase ≡ coming v → (edge_of ops b (Sample x) c ≡ started → ⊥) → (edge_of ops b (Sample x) c ≡ stopped → ⊥) → length (more_bits (edge_of ops b (Sample x) c) v) ≤ 7 → c.bus.phase ≡ coming (more_bits (edge_of ops b (Sample x) c) v)
+  sample_coming : (t : Bool) (b : Board S) (x : ℕ) (v : List Bool) → let c = cond t (moved ops b x) b in b.bus.phase ≡ coming v
+      → (edge_of ops b (Sample x) c ≡ started → ⊥) → (edge_of ops b (Sample x) c ≡ stopped → ⊥) → length (more_bits (edge_of ops b (Sample x) c) v) ≤ 7
+      → c.bus.phase ≡ coming (more_bits (edge_of ops b (Sample x) c) v)
   sample_coming true b x v e s t h = act_coming b.bus.scl (odd x) b.bus.sda _ (level ops b (levels x)) (levels x) v e s t h
   sample_coming false b x v e s t h = e ∙ ap (λ z. coming (more_bits z v)) (sym (edge_same b.bus.scl b.bus.sda))
 
@@ -119,7 +122,9 @@ module _ {S : Type 0} (ops : Ops S) where
   finish_coming true false b k v e = e
   finish_coming false q b k v e = e
 
-  call_coming : (b : Board S) (call : Call) (v : List Bool) → b.bus.phase ≡ coming v → (edge_of ops b call (step ops b call) ≡ started → ⊥) → (edge_of ops b call (step ops b call) ≡ stopped → ⊥) → (IsCut call → ⊥) → length (more_bits (edge_of ops b call (step ops b call)) v) ≤ 7 → (step ops b call).bus.phase ≡ coming (more_bits (edge_of ops b call (step ops b call)) v)
+  call_coming : (b : Board S) (call : Call) (v : List Bool) → b.bus.phase ≡ coming v → (edge_of ops b call (step ops b call) ≡ started → ⊥)
+      → (edge_of ops b call (step ops b call) ≡ stopped → ⊥) → (IsCut call → ⊥) → length (more_bits (edge_of ops b call (step ops b call)) v) ≤ 7
+      → (step ops b call).bus.phase ≡ coming (more_bits (edge_of ops b call (step ops b call)) v)
   call_coming b (Sample x) v e s t c h = sample_coming (ltb x 32) b x v e s t h
   call_coming b (Finish k) v e s t c h = finish_coming (numbered ops b k) (ops.busy b.part k) b k v e
   call_coming b (Cut p) v e s t c h = absurd (c tt)
@@ -136,7 +141,8 @@ module _ {S : Type 0} (ops : Ops S) where
   addressed_part true b x = refl
   addressed_part false b x = refl
 
-  act_eighth : (p q d w : Bool) (b : Board S) (l : Levels) (v : List Bool) (bit : Bool) → b.bus.phase ≡ coming v → length v ≡ 7 → edge p q d w ≡ rose bit → (act ops p q d w (lower ops p q b) l).part ≡ ops.address b.part (value (bit ∷ v))
+  act_eighth : (p q d w : Bool) (b : Board S) (l : Levels) (v : List Bool) (bit : Bool) → b.bus.phase ≡ coming v → length v ≡ 7 → edge p q d w ≡ rose bit
+      → (act ops p q d w (lower ops p q b) l).part ≡ ops.address b.part (value (bit ∷ v))
   act_eighth true true true true b l v bit e h r = absurd (let y : ◌≡◌ {A = ℕ} 0 1 = ap rises_in r in omega arith)
   act_eighth true true true false b l v bit e h r = absurd (let y : ◌≡◌ {A = ℕ} 0 1 = ap rises_in r in omega arith)
   act_eighth true true false true b l v bit e h r = absurd (let y : ◌≡◌ {A = ℕ} 0 1 = ap rises_in r in omega arith)
@@ -161,12 +167,15 @@ module _ {S : Type 0} (ops : Ops S) where
       same_bit z = ap bit_in z
   act_eighth false false d w b l v bit e h r = absurd (let y : ◌≡◌ {A = ℕ} 0 1 = ap rises_in r in omega arith)
 
-  sample_eighth : (t : Bool) (b : Board S) (x : ℕ) (v : List Bool) (bit : Bool) → let c = cond t (moved ops b x) b in b.bus.phase ≡ coming v → length v ≡ 7 → edge_of ops b (Sample x) c ≡ rose bit → c.part ≡ ops.address (ops.level b.part (levels x)) (value (bit ∷ v))
+  sample_eighth : (t : Bool) (b : Board S) (x : ℕ) (v : List Bool) (bit : Bool) → let c = cond t (moved ops b x) b in b.bus.phase ≡ coming v → length v ≡ 7
+      → edge_of ops b (Sample x) c ≡ rose bit → c.part ≡ ops.address (ops.level b.part (levels x)) (value (bit ∷ v))
   sample_eighth true b x v bit e h r = act_eighth b.bus.scl (odd x) b.bus.sda _ (level ops b (levels x)) (levels x) v bit e h r
   sample_eighth false b x v bit e h r = absurd (let y : ◌≡◌ {A = ℕ} 0 1 = ap rises_in (sym (edge_same b.bus.scl b.bus.sda) ∙ r) in omega arith)
 
   -- SCL and SDA HIGH, and then SDA LOW with SCL HIGH
-  pulled_down : (p d : Bool) (ph : Phase) (s : S) (l : Levels) → p ≡ true → d ≡ true → let c = move ops (record { bus = record { scl = p; sda = d; phase = ph }; part = s }) true false l in (c.bus.phase ≡ opened Address) × (c.part ≡ ops.start (ops.level s l))
+  pulled_down : (p d : Bool) (ph : Phase) (s : S) (l : Levels) → p ≡ true → d ≡ true
+      → let c = move ops (record { bus = record { scl = p; sda = d; phase = ph }; part = s }) true false l in
+      (c.bus.phase ≡ opened Address) × (c.part ≡ ops.start (ops.level s l))
   pulled_down true true ph s l e f = (refl, refl)
   pulled_down true false ph s l e f = absurd (clash f)
   pulled_down false d ph s l e f = absurd (clash e)
@@ -181,7 +190,9 @@ module _ {S : Type 0} (ops : Ops S) (keeps : Keeps ops) where
     unheard = λ x. ap (λ u. ops.heard u x) f ∙ (keeps.starts s).unheard x;
     address = λ calls n x plain seven is bit r. (
         let ph = phase_at ops c e calls n plain (omega (arith, seven)) in
-        ap (λ z. (step ops (state ops c calls n) z).part) is ∙ sample_eighth ops (ltb x 32) (state ops c calls n) x (bits ops c calls n) bit ph seven (ap (λ z. edge_of ops (state ops c calls n) z (step ops (state ops c calls n) z)) (sym is) ∙ r));
+        ap (λ z. (step ops (state ops c calls n) z).part) is
+            ∙ sample_eighth ops (ltb x 32) (state ops c calls n) x (bits ops c calls n) bit ph seven
+                (ap (λ z. edge_of ops (state ops c calls n) z (step ops (state ops c calls n) z)) (sym is) ∙ r));
   }
 
   awaits : (b : Board S) → b.bus.scl ≡ true → b.bus.sda ≡ true → (x : ℕ) → ltb x 32 ≡ true → odd x ≡ true → odd (x / 2) ≡ false → Awaits ops (step ops b (Sample x))

@@ -31,9 +31,11 @@ edge_same false d = refl
 
 module _ {S : Type 0} (ops : Ops S) where
   -- one edge, of which the levels have reached the part
-  acts : (c e d w : Bool) (b : Board S) (l : Levels) (answer : Bool) (byte : ℕ) (o : Option Transfer) → Tied b.bus.phase c answer byte o → Went ops (act ops c e d w (lower ops c e b) l) e b.part (told (edge c e d w) l o) answer byte (next (edge c e d w) (pulls_by c o answer byte) o)
+  acts : (c e d w : Bool) (b : Board S) (l : Levels) (answer : Bool) (byte : ℕ) (o : Option Transfer) → Tied b.bus.phase c answer byte o
+      → Went ops (act ops c e d w (lower ops c e b) l) e b.part (told (edge c e d w) l o) answer byte (next (edge c e d w) (pulls_by c o answer byte) o)
   acts true true true true b l answer byte o t = silent ops b true b.part [] answer byte o refl refl t
-  acts true true true false b l answer byte o t = record { tied = record { t = transfer [] []; is = refl; long = refl; few = omega arith; reads = refl; sends = refl; fits = refl; unpulled = refl }; part = refl }
+  acts true true true false b l answer byte o t =
+      record { tied = record { t = transfer [] []; is = refl; long = refl; few = omega arith; reads = refl; sends = refl; fits = refl; unpulled = refl }; part = refl }
   acts true true false true b l answer byte o t = record { tied = refl; part = ap (λ z. ops.stop b.part z l) (sym (clean_of b.bus.phase true answer byte o t)) }
   acts true true false false b l answer byte o t = silent ops b true b.part [] answer byte o refl refl t
   acts true false d w b l answer byte o t = fall_went ops b.bus.phase b l answer byte o refl t
@@ -58,7 +60,8 @@ module _ {S : Type 0} (ops : Ops S) where
       by true = refl
       by false = refl
 
-  rise_pull : (ph : Phase) (b : Board S) (w : Bool) (l : Levels) (answer : Bool) (byte : ℕ) (o : Option Transfer) → b.bus.phase ≡ ph → Tied ph false answer byte o → pulls_now (rise_at ops ph b w l).bus.phase ≡ pulls_now ph
+  rise_pull : (ph : Phase) (b : Board S) (w : Bool) (l : Levels) (answer : Bool) (byte : ℕ) (o : Option Transfer) → b.bus.phase ≡ ph → Tied ph false answer byte o
+      → pulls_now (rise_at ops ph b w l).bus.phase ≡ pulls_now ph
   rise_pull Closed b w l answer byte o e t = ap pulls_now e
   rise_pull Deaf b w l answer byte o e t = ap pulls_now e
   rise_pull (Taking kind bits so-far) b w l answer byte o e t = by (ltb bits 7)
@@ -123,7 +126,8 @@ module _ {S : Type 0} (ops : Ops S) where
       }
 
   -- a call that changes nothing
-  idles : (b : Board S) (k : Call) (h : History) → moves_of ops b k b h.opened ≡ [] → edge_of ops b k b ≡ steady → scl_after b.bus.scl k ≡ b.bus.scl → ((p : Bool) → sda_after b.bus.sda k p ≡ b.bus.sda) → (onward ops b k b h).opened ≡ h.opened → Good b h → Advances b k b h
+  idles : (b : Board S) (k : Call) (h : History) → moves_of ops b k b h.opened ≡ [] → edge_of ops b k b ≡ steady → scl_after b.bus.scl k ≡ b.bus.scl
+      → ((p : Bool) → sda_after b.bus.sda k p ≡ b.bus.sda) → (onward ops b k b h).opened ≡ h.opened → Good b h → Advances b k b h
   idles b k h m e c d o g = record {
     good = record { tied = rw (m, o) g.tied; low = g.low };
     part = rw m refl;

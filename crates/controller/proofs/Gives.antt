@@ -21,7 +21,9 @@ good_next xs i h e = by_test (ltb (get_or xs i 0) 32) refl
     by_test false p = absurd (clash (sym (list_all_at (λ x. ltb x 32) xs i 0 h p) ∙ e))
 
 module _ {S : Type 0} (ops : Ops S) where
-  pub given_more : (xs : List ℕ) (i : ℕ) (got : List ℕ) (high : Bool) (b c : Board S) {z : Board S × Told (List ℕ)} → i < length xs → run ops (gives (get_or xs i 0) ended) b ≡ (c, high) → run ops (giving (drop i xs) got) b ≡ z → run ops (giving (drop (i + 1) xs) (got ++ (bool_byte high ∷ []))) c ≡ z
+  pub given_more : (xs : List ℕ) (i : ℕ) (got : List ℕ) (high : Bool) (b c : Board S) {z : Board S × Told (List ℕ)} → i < length xs
+      → run ops (gives (get_or xs i 0) ended) b ≡ (c, high) → run ops (giving (drop i xs) got) b ≡ z
+      → run ops (giving (drop (i + 1) xs) (got ++ (bool_byte high ∷ []))) c ≡ z
   unfolding giving
   given_more xs i got high b c h e f =
       ap (λ v. run ops (giving (drop (i + 1) xs) (got ++ (v ∷ []))) c) (byte_bit high)

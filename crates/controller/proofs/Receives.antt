@@ -22,7 +22,8 @@ left_test a b = by_test (ltb a b) refl
     by_test false e = let h : b ≤ a = ltb-false a b e in le-ltb 0 (b - a) (omega arith) ∙ sym e
 
 module _ {S : Type 0} (ops : Ops S) (l : Levels) where
-  pub received_more : (n count v : ℕ) (got : List ℕ) (b c : Board S) {z : Board S × Told (List ℕ)} → n < count → run ops (receive l (ltb (n + 1) count)) b ≡ (c, v) → run ops (receive_all l (count - n) got) b ≡ z → run ops (receive_all l (count - (n + 1)) (got ++ (v ∷ []))) c ≡ z
+  pub received_more : (n count v : ℕ) (got : List ℕ) (b c : Board S) {z : Board S × Told (List ℕ)} → n < count → run ops (receive l (ltb (n + 1) count)) b ≡ (c, v)
+      → run ops (receive_all l (count - n) got) b ≡ z → run ops (receive_all l (count - (n + 1)) (got ++ (v ∷ []))) c ≡ z
   unfolding receive_all
   received_more n count v got b c {z} h e f =
       let q : count - n ≡ suc (count - (n + 1)) = omega arith in
@@ -38,10 +39,12 @@ module _ {S : Type 0} (ops : Ops S) (l : Levels) where
       sym f'
 
   -- a whole read
-  pub reads_all : (a n : ℕ) (aim got : List ℕ) (b c d e : Board S) → run ops (end_refused l (addressing l a aim)) b ≡ (c, ok []) → run ops (receive_all l n []) c ≡ (d, ok got) → (run ops (stop l) d).0 ≡ e → run ops (reading l a aim n) b ≡ (e, ok got)
+  pub reads_all : (a n : ℕ) (aim got : List ℕ) (b c d e : Board S) → run ops (end_refused l (addressing l a aim)) b ≡ (c, ok [])
+      → run ops (receive_all l n []) c ≡ (d, ok got) → (run ops (stop l) d).0 ≡ e → run ops (reading l a aim n) b ≡ (e, ok got)
   unfolding reading
   reads_all a n aim got b c d e p q r =
-      onward ops (end_refused l (addressing l a aim)) (λ t. unless_refused t (receive_all l n [] then close l)) b c (ok []) p (onward ops (receive_all l n []) (close l) c d (ok got) q (closes ops l (ok got) d e r))
+      onward ops (end_refused l (addressing l a aim)) (λ t. unless_refused t (receive_all l n [] then close l)) b c (ok []) p
+          (onward ops (receive_all l n []) (close l) c d (ok got) q (closes ops l (ok got) d e r))
 
   pub reads_refused : (a n m p : ℕ) (aim : List ℕ) (b c : Board S) → run ops (end_refused l (addressing l a aim)) b ≡ (c, refused m p) → run ops (reading l a aim n) b ≡ (c, refused m p)
   unfolding reading
@@ -49,7 +52,8 @@ module _ {S : Type 0} (ops : Ops S) (l : Levels) where
       onward ops (end_refused l (addressing l a aim)) (λ t. unless_refused t (receive_all l n [] then close l)) b c (refused m p) e refl
 
   -- the address and the aim bytes by other names
-  pub same_address : (a a' : ℕ) (xs xs' : List ℕ) (b : Board S) {z : Board S × Told (List ℕ)} → a ≡ a' → xs ≡ xs' → run ops (end_refused l (addressing l a xs)) b ≡ z → run ops (end_refused l (addressing l a' xs')) b ≡ z
+  pub same_address : (a a' : ℕ) (xs xs' : List ℕ) (b : Board S) {z : Board S × Told (List ℕ)} → a ≡ a' → xs ≡ xs' → run ops (end_refused l (addressing l a xs)) b ≡ z
+      → run ops (end_refused l (addressing l a' xs')) b ≡ z
   same_address a a' xs xs' b p q e =
       sym (ap (λ x. run ops (end_refused l (addressing l x xs)) b) p ∙ ap (λ ys. run ops (end_refused l (addressing l a' ys)) b) q) ∙ e
 

@@ -39,7 +39,8 @@ module _ {S : Type 0} (ops : Ops S) (l : Levels) where
   so_far_none b =
       record { before = 0; number = refl; board = refl; low = λ i h k. let none : ⊥ = omega (arith, h, k) in absurd none; left = omega (arith, at_most_nine b) }
 
-  low_too : (start : Board S) (j : ℕ) → ((i : ℕ) → 1 ≤ i → i ≤ j → (clocks ops l i start).bus.sda ≡ false) → (clocks ops l (suc j) start).bus.sda ≡ false → (i : ℕ) → 1 ≤ i → (i ≤ j) ⊎ (i ≡ suc j) → (clocks ops l i start).bus.sda ≡ false
+  low_too : (start : Board S) (j : ℕ) → ((i : ℕ) → 1 ≤ i → i ≤ j → (clocks ops l i start).bus.sda ≡ false) → (clocks ops l (suc j) start).bus.sda ≡ false → (i : ℕ)
+      → 1 ≤ i → (i ≤ j) ⊎ (i ≡ suc j) → (clocks ops l i start).bus.sda ≡ false
   low_too start j low last i h (inl k) = low i h k
   low_too start j low last i h (inr e) = ap (λ i. (clocks ops l i start).bus.sda) e ∙ last
 
@@ -91,7 +92,8 @@ module _ {S : Type 0} (ops : Ops S) (l : Levels) where
   unfolding clocking
   reached start k f zero j h m = let none : ⊥ = omega (arith, h, m) in absurd none
   reached start k f (suc n) j h m =
-      onward ops (clock-master l) (λ high. cond high (after_clocks (j + 1)) (clocking l n (j + 1 + 1))) (clocks ops l j start) (clocks ops l (suc j) start) _ (clock_run (clocks ops l j start)) (by_test (ltb (suc j) k) refl (reached start k f n (suc j)))
+      onward ops (clock-master l) (λ high. cond high (after_clocks (j + 1)) (clocking l n (j + 1 + 1))) (clocks ops l j start) (clocks ops l (suc j) start) _
+          (clock_run (clocks ops l j start)) (by_test (ltb (suc j) k) refl (reached start k f n (suc j)))
     where
       by_test : (t : Bool) → ltb (suc j) k ≡ t
           → (suc j < k → k ≤ suc j + n → run ops (clocking l n (suc j + 1)) (clocks ops l (suc j) start) ≡ run ops (after_clocks k) (clocks ops l k start))

@@ -58,7 +58,8 @@ its_level (Err refusal) level e = apart level (number refusal) (place refusal) (
 
 module _ {S : Type 0} (ops : Ops S) where
   -- the board after a sample of the tool, and the answer
-  pub put_sample : (l : Levels) (scl sda : Bool) (b after : Board S) (level : Bool) → after ≡ move ops b scl sda l → level ≡ after.bus.sda → ◌≡◌ {A = Board S × Bool} (given ops b (sample_of l scl sda), reads ops b (sample_of l scl sda)) (after, level)
+  pub put_sample : (l : Levels) (scl sda : Bool) (b after : Board S) (level : Bool) → after ≡ move ops b scl sda l → level ≡ after.bus.sda
+      → ◌≡◌ {A = Board S × Bool} (given ops b (sample_of l scl sda), reads ops b (sample_of l scl sda)) (after, level)
   unfolding given reads
   put_sample l scl sda b after level e f =
       let same : moved ops b (sample_of l scl sda) ≡ move ops b scl sda l = λ i.
@@ -71,7 +72,8 @@ module _ {S : Type 0} (ops : Ops S) where
   taken_sample b x r h f = its_level r _ (rw (lt-ltb x 32 h) at f)
 
   -- the board after it, and the answer
-  pub answered : (b after : Board S) (x : ℕ) (r : Result Bool Refusal) (level : Bool) → x < 32 → after ≡ sampled ops b x → told (λ level. level) r ≡ sample_told ops b x → r ≡ Ok level → ◌≡◌ {A = Board S × Bool} (given ops b x, reads ops b x) (after, level)
+  pub answered : (b after : Board S) (x : ℕ) (r : Result Bool Refusal) (level : Bool) → x < 32 → after ≡ sampled ops b x → told (λ level. level) r ≡ sample_told ops b x
+      → r ≡ Ok level → ◌≡◌ {A = Board S × Bool} (given ops b x, reads ops b x) (after, level)
   unfolding given reads
   answered b after x r level h e f k =
       let s : sampled ops b x ≡ moved ops b x = rw (lt-ltb x 32 h) refl in
@@ -91,7 +93,8 @@ module _ {S : Type 0} (ops : Ops S) where
 
   module _ (l : Levels) where
     -- one bit more of a byte sent
-    pub sent_more : (x n : ℕ) (b c : Board S) (r : Bool) {z : Board S × Unit {0}} → n < 8 → run ops (send_bit l (odd (x / 2 ^ (7 - n)))) b ≡ (c, r) → run ops (send_bits l (8 - n) x) b ≡ z → run ops (send_bits l (8 - (n + 1)) x) c ≡ z
+    pub sent_more : (x n : ℕ) (b c : Board S) (r : Bool) {z : Board S × Unit {0}} → n < 8 → run ops (send_bit l (odd (x / 2 ^ (7 - n)))) b ≡ (c, r)
+        → run ops (send_bits l (8 - n) x) b ≡ z → run ops (send_bits l (8 - (n + 1)) x) c ≡ z
     sent_more x n b c r {z} h e f =
         let p : 8 - n ≡ suc (7 - n) = omega arith in
         let q : 8 - (n + 1) ≡ 7 - n = omega arith in
@@ -111,7 +114,8 @@ module _ {S : Type 0} (ops : Ops S) where
         onward (send_bits l 8 x) (λ _. read_bit l then (λ high. ended (not high))) b c tt e (onward (read_bit l) (λ high. ended (not high)) c d high f refl)
 
     -- one bit more of a byte read
-    read_more : (v n : ℕ) (b c : Board S) (high : Bool) {z : Board S × ℕ} → n < 8 → run ops (read_bit l) b ≡ (c, high) → run ops (read_bits l (8 - n) v) b ≡ z → run ops (read_bits l (8 - (n + 1)) (v * 2 + bit_value high)) c ≡ z
+    read_more : (v n : ℕ) (b c : Board S) (high : Bool) {z : Board S × ℕ} → n < 8 → run ops (read_bit l) b ≡ (c, high) → run ops (read_bits l (8 - n) v) b ≡ z
+        → run ops (read_bits l (8 - (n + 1)) (v * 2 + bit_value high)) c ≡ z
     read_more v n b c high {z} h e f =
         let p : 8 - n ≡ suc (7 - n) = omega arith in
         let q : 8 - (n + 1) ≡ 7 - n = omega arith in

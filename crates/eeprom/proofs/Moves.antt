@@ -25,7 +25,8 @@ staged_here : (e : Bool) (n m i : ℕ) (b : ℕ) (w : Option ℕ) → eqb i n �
 staged_here true n m i b w e lt out h = absurd (omega (arith, eqb-true i n e, ltb-false i m out))
 staged_here false n m i b w e lt out h = h
 
-staged_by : (t : Bool) (m n b i : ℕ) (ws : List (Option ℕ)) → ltb n m ≡ t → place m None (cond t (table m (λ k. cond (eqb k n) (Some b) (place m None ws k))) ws) i ≡ cond t (cond (eqb i n) (Some b) (place m None ws i)) (place m None ws i)
+staged_by : (t : Bool) (m n b i : ℕ) (ws : List (Option ℕ)) → ltb n m ≡ t
+    → place m None (cond t (table m (λ k. cond (eqb k n) (Some b) (place m None ws k))) ws) i ≡ cond t (cond (eqb i n) (Some b) (place m None ws i)) (place m None ws i)
 staged_by true m n b i ws e =
     place_table (λ k. cond (eqb k n) (Some b) (place m None ws k)) None m i
     (λ out. staged_here (eqb i n) n m i b (place m None ws i) refl (ltb-true n m e) out (rw out))

@@ -35,7 +35,8 @@ begun true (Some x) w v h = inl h
 begun false u w v h = inl refl
 
 -- a write staged: t is whether there is a cell n, f whether the cell i is cell n
-staged_one : (q t f : Bool) (k n i x : ℕ) (o w v : Option ℕ) → eqb k 0 ≡ q → eqb i n ≡ f → o ≡ Some 0 → v ≡ cond t (cond f (Some x) w) w → (cond q v None ≡ cond q w None) ⊎ ((cond q v None ≡ None) ⊎ ((i ≡ n) × (o ≡ Some k) × (cond q v None ≡ Some x)))
+staged_one : (q t f : Bool) (k n i x : ℕ) (o w v : Option ℕ) → eqb k 0 ≡ q → eqb i n ≡ f → o ≡ Some 0 → v ≡ cond t (cond f (Some x) w) w
+    → (cond q v None ≡ cond q w None) ⊎ ((cond q v None ≡ None) ⊎ ((i ≡ n) × (o ≡ Some k) × (cond q v None ≡ Some x)))
 staged_one true true true k n i x o w v e g h z = inr (inr (eqb-true i n g, h ∙ ap Some (sym (eqb-true k 0 e)), z))
 staged_one true true false k n i x o w v e g h z = inl z
 staged_one true false f k n i x o w v e g h z = inl z
@@ -79,7 +80,8 @@ module _ {N : ℕ} (e : Eeprom N) where
   busy_from false h = absurd (clash h)
 
   -- the byte x staged for cell n of part 0, which owns the address
-  pub staged_by : (n x k i : ℕ) (o : Option ℕ) → o ≡ Some 0 → (of_part k (staged_at (stages e n x) i) None ≡ of_part k (staged_at e i) None) ⊎ ((of_part k (staged_at (stages e n x) i) None ≡ None) ⊎ ((i ≡ n) × (o ≡ Some k) × (of_part k (staged_at (stages e n x) i) None ≡ Some x)))
+  pub staged_by : (n x k i : ℕ) (o : Option ℕ) → o ≡ Some 0 → (of_part k (staged_at (stages e n x) i) None ≡ of_part k (staged_at e i) None)
+      ⊎ ((of_part k (staged_at (stages e n x) i) None ≡ None) ⊎ ((i ≡ n) × (o ≡ Some k) × (of_part k (staged_at (stages e n x) i) None ≡ Some x)))
   staged_by n x k i o h = staged_one (eqb k 0) (ltb n N) (eqb i n) k n i x o (staged_at e i) (staged_at (stages e n x) i) refl refl h (stages_staged e n x i)
 
   pub stopped_byte : (b : Bool) (i : ℕ) → byte_at (stopped b e) i ≡ byte_at e i
@@ -90,7 +92,9 @@ module _ {N : ℕ} (e : Eeprom N) where
   stopped_staged true i = begins_staged e i
   stopped_staged false i = unstages_staged e i
 
-  pub stopped_under : (clean wp : Bool) (k i : ℕ) → (of_part k (under_at (stopped (clean && not wp) e) i) None ≡ of_part k (under_at e i) None) ⊎ ((of_part k (under_at e i) None ≡ None) × (clean ≡ true) × (wp ≡ false) × (of_part k (under_at (stopped (clean && not wp) e) i) None ≡ of_part k (staged_at e i) None))
+  pub stopped_under : (clean wp : Bool) (k i : ℕ) → (of_part k (under_at (stopped (clean && not wp) e) i) None ≡ of_part k (under_at e i) None)
+      ⊎ ((of_part k (under_at e i) None ≡ None) × (clean ≡ true) × (wp ≡ false)
+          × (of_part k (under_at (stopped (clean && not wp) e) i) None ≡ of_part k (staged_at e i) None))
   stopped_under true true k i = inl refl
   stopped_under true false k i = begun (eqb k 0) (under_at e i) (staged_at e i) _ (begins_under e i)
   stopped_under false wp k i = inl refl

@@ -23,7 +23,8 @@ module _ {A : Type 0} where
   as_table f d xs n long h = fill_by_all f xs n d long h
 
   -- an array made by a function, which gives v i at i and stays as it was
-  made_from : {F : Type 0} (g : Mut F (ℕ × Unit {0}) A) (f : F) (v : ℕ → A) → ((i : ℕ) (y : A) (q : F) → Called g f (i, tt) y q → (q ≡ f) × (y ≡ v i)) → (ys : List A) (n i k : ℕ) (d : A) → IsFromFnResultFrom g f ys i n → i ≤ k → k < i + n → get_or ys k d ≡ v k
+  made_from : {F : Type 0} (g : Mut F (ℕ × Unit {0}) A) (f : F) (v : ℕ → A) → ((i : ℕ) (y : A) (q : F) → Called g f (i, tt) y q → (q ≡ f) × (y ≡ v i))
+      → (ys : List A) (n i k : ℕ) (d : A) → IsFromFnResultFrom g f ys i n → i ≤ k → k < i + n → get_or ys k d ≡ v k
   made_from g f v calls ys zero i k d r low high = absurd (omega arith)
   made_from g f v calls ys (suc n) i k d r low high =
       let call = calls i r.1 r.0 r.3 in
@@ -32,7 +33,8 @@ module _ {A : Type 0} where
       (λ e. made_from g f v calls ys n (i + 1) k d (subst (λ q. IsFromFnResultFrom g q ys (i + 1) n) call.0 r.4) (omega arith) (omega arith))
       (cases_eq k i)
 
-  pub made_table : {F : Type 0} (g : Mut F (ℕ × Unit {0}) A) (f : F) (v : ℕ → A) (d : A) (ys : List A) (n : ℕ) → IsFromFnResult g f ys n → ((i : ℕ) (y : A) (q : F) → Called g f (i, tt) y q → (q ≡ f) × (y ≡ v i)) → ys ≡ table n v
+  pub made_table : {F : Type 0} (g : Mut F (ℕ × Unit {0}) A) (f : F) (v : ℕ → A) (d : A) (ys : List A) (n : ℕ) → IsFromFnResult g f ys n
+      → ((i : ℕ) (y : A) (q : F) → Called g f (i, tt) y q → (q ≡ f) × (y ≡ v i)) → ys ≡ table n v
   made_table g f v d ys n r calls = as_table v d ys n r.long (λ k h. made_from g f v calls ys n 0 k d r.each (omega arith) (omega arith))
 
   pub table_of : (d : A) (xs : List A) (n : ℕ) → length xs ≡ n → xs ≡ table n (place n d xs)

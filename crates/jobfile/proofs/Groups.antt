@@ -17,7 +17,8 @@ at_last i v xs h k l =
     let e : 3 - i ≡ suc (2 - i) = omega arith in
     rw (e, drop-cons xs i 0 k, lt-ltb (get_or xs i 0) 128 l)
 
-pub at_more : (i v : ℕ) (xs : List ℕ) → i < 3 → i < length xs → 128 ≤ get_or xs i 0 → number_from (3 - i) v i (drop i xs) ≡ number_from (3 - (i + 1)) (v * 128 + (get_or xs i 0 - 128)) (i + 1) (drop (i + 1) xs)
+pub at_more : (i v : ℕ) (xs : List ℕ) → i < 3 → i < length xs → 128 ≤ get_or xs i 0
+    → number_from (3 - i) v i (drop i xs) ≡ number_from (3 - (i + 1)) (v * 128 + (get_or xs i 0 - 128)) (i + 1) (drop (i + 1) xs)
 unfolding number_from
 at_more i v xs h k l =
     let e : 3 - i ≡ suc (2 - i) = omega arith in

@@ -58,7 +58,8 @@ module _ {A B : Type 0} (a : Ops A) (b : Ops B) where
     mine : (s : Pair A B) (n : ℕ) → Mine (both a b) chip (λ t. number t.first) (λ t. see t.first) s n → (a.has s.first n ≡ true) × Mine a chip number see s.first n
     mine s n h = elim (owned (a.has s.first n) _ _ _ _ h) [ inl e ↦ e | inr e ↦ absurd (omega (arith, e.1, (r.shown s.first).within)) ]
 
-    other : (s : Pair A B) (n : ℕ) → (Mine (both a b) chip (λ t. number t.first) (λ t. see t.first) s n → ⊥) → ((a.has s.first n ≡ true) × (Mine a chip number see s.first n → ⊥)) ⊎ (a.has s.first n ≡ false)
+    other : (s : Pair A B) (n : ℕ) → (Mine (both a b) chip (λ t. number t.first) (λ t. see t.first) s n → ⊥)
+        → ((a.has s.first n ≡ true) × (Mine a chip number see s.first n → ⊥)) ⊎ (a.has s.first n ≡ false)
     other s n h = elim (not_owned (a.has s.first n) _ _ _ h) [ inl e ↦ inl e | inr e ↦ inr e.0 ]
 
     first_shown : (s : Pair A B) → Shown (both a b) chip (number s.first) s (see s.first)
@@ -128,7 +129,8 @@ module _ {A B : Type 0} (a : Ops A) (b : Ops B) where
       | inr e ↦ (e.0, e.2 ∙ ap Some (back s))
     ]
 
-    other_too : (s : Pair A B) (n : ℕ) → (Mine (both a b) chip past_first (λ t. see t.second) s n → ⊥) → (a.has s.first n ≡ true) ⊎ ((a.has s.first n ≡ false) × (Mine b chip number see s.second n → ⊥))
+    other_too : (s : Pair A B) (n : ℕ) → (Mine (both a b) chip past_first (λ t. see t.second) s n → ⊥)
+        → (a.has s.first n ≡ true) ⊎ ((a.has s.first n ≡ false) × (Mine b chip number see s.second n → ⊥))
     other_too s n h = elim (not_owned (a.has s.first n) _ _ _ h) [ inl e ↦ inl e.0 | inr e ↦ inr (e.0, λ o. e.1 (ap (shift (a.count s.first)) o)) ]
 
     second_shown : (s : Pair A B) → Shown (both a b) chip (past_first s) s (see s.second)

@@ -62,7 +62,8 @@ module _ {A B : Type 0} (a : Ops A) (b : Ops B) (ka : Keeps a) (kb : Keeps b) wh
       }
 
   -- what is heard after an address byte x, with whether it is for the first
-  heard_after : (h : Bool) (s : Pair A B) (x y : ℕ) → (both a b).heard (one h (λ u. a.address u x) (λ v. b.address v x) s) y ≡ true → ((both a b).heard s y ≡ true) ⊎ ((y ≡ x) × (cond h (a.hears s.first x) (b.hears s.second x) ≡ true))
+  heard_after : (h : Bool) (s : Pair A B) (x y : ℕ) → (both a b).heard (one h (λ u. a.address u x) (λ v. b.address v x) s) y ≡ true
+      → ((both a b).heard s y ≡ true) ⊎ ((y ≡ x) × (cond h (a.hears s.first x) (b.hears s.second x) ≡ true))
   heard_after true s x y e = either_heard _ _ (b.heard s.second y) _ ((ka.addresses s.first x).heard y) inl e
   heard_after false s x y e = either_heard (a.heard s.first y) _ _ _ inl ((kb.addresses s.second x).heard y) e
 

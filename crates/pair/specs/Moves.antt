@@ -77,7 +77,8 @@ module _ {A B : Type 0} (a : Ops A) (b : Ops B) where
   one_fixed true f g s p q = fixed_both s _ p (fixed_self b s.second)
   one_fixed false f g s p q = fixed_both s _ (fixed_self a s.first) q
 
-  pub one_lasting : (h : Bool) (f : A → A) (g : B → B) (s : Pair A B) → Fixed a s.first (f s.first) → Lasting a s.first (f s.first) → Lasting b s.second (g s.second) → Lasting (both a b) s (one h f g s)
+  pub one_lasting : (h : Bool) (f : A → A) (g : B → B) (s : Pair A B) → Fixed a s.first (f s.first) → Lasting a s.first (f s.first) → Lasting b s.second (g s.second)
+      → Lasting (both a b) s (one h f g s)
   one_lasting true f g s c p q = lasting_both s _ c p (lasting_self b s.second)
   one_lasting false f g s c p q = lasting_both s _ (fixed_self a s.first) (lasting_self a s.first) q
 
@@ -106,6 +107,7 @@ module _ {A B : Type 0} (a : Ops A) (b : Ops B) where
         still = one_still h f g s c p.still q.still;
       }
 
-  pub one_settles : (h : Bool) (f : A → A) (g : B → B) (s : Pair A B) (l : Levels) → (Settled a l s.first → Settled a l (f s.first)) → (Settled b l s.second → Settled b l (g s.second)) → Settled (both a b) l s → Settled (both a b) l (one h f g s)
+  pub one_settles : (h : Bool) (f : A → A) (g : B → B) (s : Pair A B) (l : Levels) → (Settled a l s.first → Settled a l (f s.first))
+      → (Settled b l s.second → Settled b l (g s.second)) → Settled (both a b) l s → Settled (both a b) l (one h f g s)
   one_settles true f g s l p q = settles_both s _ l p (λ e. e)
   one_settles false f g s l p q = settles_both s _ l (λ e. e) q

@@ -46,8 +46,10 @@ module _ {S C : Type 0} (ops : Ops S) (chip : Ops C) (number : S → ℕ) (see :
     pub finish_other : (s : S) (k : ℕ) → (k ≢ number s) → see (ops.finish s k) ≡ see s
     -- bytes under an address that its number owns
     pub address : (s : S) (x : ℕ) → Mine s (x / 2) → Routed (ops.hears s x) (chip.hears (see s) x) (see (ops.address s x)) (chip.address (see s) x) (see s) (chip.start (see s))
-    pub aim : (s : S) (a : ℕ) (l : Levels) (x : ℕ) → Mine s (a / 2) → Routed (ops.aims s a l x) (chip.aims (see s) a l x) (see (ops.aim s a l x)) (chip.aim (see s) a l x) (see s) (chip.start (see s))
-    pub take : (s : S) (a : ℕ) (l : Levels) (x : ℕ) → Mine s (a / 2) → Routed (ops.takes s a l x) (chip.takes (see s) a l x) (see (ops.take s a l x)) (chip.take (see s) a l x) (see s) (chip.start (see s))
+    pub aim : (s : S) (a : ℕ) (l : Levels) (x : ℕ) → Mine s (a / 2)
+        → Routed (ops.aims s a l x) (chip.aims (see s) a l x) (see (ops.aim s a l x)) (chip.aim (see s) a l x) (see s) (chip.start (see s))
+    pub take : (s : S) (a : ℕ) (l : Levels) (x : ℕ) → Mine s (a / 2)
+        → Routed (ops.takes s a l x) (chip.takes (see s) a l x) (see (ops.take s a l x)) (chip.take (see s) a l x) (see s) (chip.start (see s))
     pub give : (s : S) (a : ℕ) → Mine s (a / 2) → ((ops.given s a ≡ chip.given (see s) a) × (see (ops.give s a) ≡ chip.give (see s) a)) ⊎ (see (ops.give s a) ≡ see s)
     -- bytes under any other address
     pub address_other : (s : S) (x : ℕ) → (Mine s (x / 2) → ⊥) → Aside s (x / 2) (see (ops.address s x)) (chip.address (see s) x)

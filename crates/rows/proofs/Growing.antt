@@ -16,7 +16,8 @@ module _ {A : Type 0} where
   length_grown a b xs g = ap length g.items ∙ length-filled (items_of a) a.count xs g.fits
 
   -- the facts after the one of growth are what an append ensures where there is room
-  pub grown_more : (a b c : Row A) (xs : List A) (x : A) → Grown a xs b → roomy b ≡ true → c.count ≡ cond (roomy b) (b.count + 1) b.count → items_of c ≡ cond (roomy b) (set (items_of b) b.count x) (items_of b) → Grown a (xs ++ (x ∷ [])) c
+  pub grown_more : (a b c : Row A) (xs : List A) (x : A) → Grown a xs b → roomy b ≡ true → c.count ≡ cond (roomy b) (b.count + 1) b.count
+      → items_of c ≡ cond (roomy b) (set (items_of b) b.count x) (items_of b) → Grown a (xs ++ (x ∷ [])) c
   grown_more a b c xs x g r n i =
       let l = length_grown a b xs g in
       let h : b.count < length (items_of b) = ltb-true _ _ r in
@@ -51,7 +52,8 @@ module _ {A : Type 0} where
       )
 
   -- the facts after the one of growth are what putting another item in its place ensures
-  pub grown_other : (a b c : Row A) (xs : List A) (x y : A) → Grown a (xs ++ (x ∷ [])) b → c.count ≡ b.count → items_of c ≡ cond (holds_none b) (items_of b) (set (items_of b) (b.count - 1) y) → Grown a (xs ++ (y ∷ [])) c
+  pub grown_other : (a b c : Row A) (xs : List A) (x y : A) → Grown a (xs ++ (x ∷ [])) b → c.count ≡ b.count
+      → items_of c ≡ cond (holds_none b) (items_of b) (set (items_of b) (b.count - 1) y) → Grown a (xs ++ (y ∷ [])) c
   grown_other a b c xs x y g n i =
       let p = length_push xs x in
       let q = length_push xs y in

@@ -229,7 +229,8 @@ paged s x j h = record {
   unlocked = h.unlocked;
   empty = λ e. absurd (clash (sym e));
   idle = λ b. other_mode MemoryBytes Idle (sym j.0 ∙ h.idle b) (λ z. omega arith);
-  held = λ v w. ⊎_elim (λ e. let c = h.counter_in in absurd (omega arith)) (λ e. other_mode MemoryBytes (Storing v) (sym j.0 ∙ (h.held v e).0) (λ z. omega arith)) (staged_one s.eeprom s.counter x 259 v w);
+  held = λ v w. ⊎_elim (λ e. let c = h.counter_in in absurd (omega arith)) (λ e. other_mode MemoryBytes (Storing v) (sym j.0 ∙ (h.held v e).0) (λ z. omega arith))
+      (staged_one s.eeprom s.counter x 259 v w);
   storing = λ v e. other_mode MemoryBytes (Storing v) e (λ z. omega arith);
 }
 
@@ -239,7 +240,9 @@ moved_stored s x j h =
     record {
       counter_in = h.counter_in;
       named_in = h.named_in;
-      free = λ i v w. ⊎_elim (λ e. free_at (stored_register s) (256 + s.named) i e (wipers_free (ltb (256 + s.named) 256) (locks_wipers (stored_register s)) (stored_register s) (256 + s.named) j.1 (le-ltb (256 + s.named) 256 (omega arith)))) (λ e. h.free i v e) (staged_one s.eeprom (256 + s.named) x i v w);
+      free = λ i v w. ⊎_elim (λ e. free_at (stored_register s) (256 + s.named) i e
+          (wipers_free (ltb (256 + s.named) 256) (locks_wipers (stored_register s)) (stored_register s) (256 + s.named) j.1 (le-ltb (256 + s.named) 256 (omega arith))))
+          (λ e. h.free i v e) (staged_one s.eeprom (256 + s.named) x i v w);
       unlocked = h.unlocked;
       empty = λ e. absurd (clash (sym e));
       idle = λ b. other_mode (DcpByte true) Idle (sym j.0 ∙ h.idle b) (λ z. omega arith);
@@ -407,7 +410,8 @@ module _ (s : X9520) (h : Guarded s) where
   latching_empty v e = h.empty (ap may_stage e)
 
   -- a register byte comes under way only at a clean STOP with WP LOW, out of the byte held by RWEL
-  pub register_begins : (clean : Bool) (l : Levels) (v : ℕ) → under_at (x9520.stop s clean l).eeprom 259 ≡ Some v → (under_at s.eeprom 259 ≡ Some v) ⊎ ((s.mode ≡ Storing v) × (s.latches.rwel ≡ true) × (clean ≡ true) × (l.wp ≡ false))
+  pub register_begins : (clean : Bool) (l : Levels) (v : ℕ) → under_at (x9520.stop s clean l).eeprom 259 ≡ Some v
+      → (under_at s.eeprom 259 ≡ Some v) ⊎ ((s.mode ≡ Storing v) × (s.latches.rwel ≡ true) × (clean ≡ true) × (l.wp ≡ false))
   register_begins clean l v w =
       ⊎_elim (λ u. inl u) (λ u. let b = and_parts clean (not l.wp) u.0 in inr ((h.held v u.1).0, (h.held v u.1).1, b.0, not-true l.wp b.1))
       (begun s.eeprom (clean && not l.wp) 259 v w)

@@ -182,7 +182,8 @@ opened_more x b (a ∷ (c ∷ [])) e = opened_three (eqb c 164 && eqb a 255) b e
 opened_more x b (a ∷ (c ∷ (d ∷ bs))) e = apart opened outside e (λ z. omega arith)
 
 -- the first byte after a write address
-register_aim : (t : Bool) (x b : ℕ) (bs : List ℕ) → eqb x 255 ≡ t → aimed ≡ place (b ∷ bs) → aim_acks (cond t opens rejected) ≡ true → where_is (aim_mode (cond t opens rejected)) ≡ place (x ∷ (b ∷ bs))
+register_aim : (t : Bool) (x b : ℕ) (bs : List ℕ) → eqb x 255 ≡ t → aimed ≡ place (b ∷ bs) → aim_acks (cond t opens rejected) ≡ true
+    → where_is (aim_mode (cond t opens rejected)) ≡ place (x ∷ (b ∷ bs))
 register_aim true x b bs f e h = aimed_more x b bs e f
 register_aim false x b bs f e h = absurd (clash h)
 
@@ -203,7 +204,8 @@ aim_in_place (Latching y) x b bs e h = absurd (clash h)
 aim_in_place (Storing y) x b bs e h = absurd (clash h)
 aim_in_place (Reading d) x b bs e h = absurd (clash h)
 
-aim_by : (t : Bool) (m : Mode) (x b : ℕ) (bs : List ℕ) → where_is m ≡ place (b ∷ bs) → aim_acks (cond t (aim_in m x) rejected) ≡ true → where_is (aim_mode (cond t (aim_in m x) rejected)) ≡ place (x ∷ (b ∷ bs))
+aim_by : (t : Bool) (m : Mode) (x b : ℕ) (bs : List ℕ) → where_is m ≡ place (b ∷ bs) → aim_acks (cond t (aim_in m x) rejected) ≡ true
+    → where_is (aim_mode (cond t (aim_in m x) rejected)) ≡ place (x ∷ (b ∷ bs))
 aim_by true m x b bs e h = aim_in_place m x b bs e h
 aim_by false m x b bs e h = absurd (clash h)
 

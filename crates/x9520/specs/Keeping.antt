@@ -53,7 +53,8 @@ again false v = refl
 flags_again : (a b : Bool) (l : Levels) → flags_at (flags (a && l.v2ro) (b && l.v3ro)) l ≡ flags (a && l.v2ro) (b && l.v3ro)
 flags_again a b l i = flags (again a l.v2ro i) (again b l.v3ro i)
 
-begun_flags : (b : Bool) (x : ℕ) (l : Levels) (f : Flags) → flags_at f l ≡ f → flags_at (cond b (flags (bit 64 x && l.v2ro) (bit 32 x && l.v3ro)) f) l ≡ cond b (flags (bit 64 x && l.v2ro) (bit 32 x && l.v3ro)) f
+begun_flags : (b : Bool) (x : ℕ) (l : Levels) (f : Flags) → flags_at f l ≡ f
+    → flags_at (cond b (flags (bit 64 x && l.v2ro) (bit 32 x && l.v3ro)) f) l ≡ cond b (flags (bit 64 x && l.v2ro) (bit 32 x && l.v3ro)) f
 begun_flags true x l f h = flags_again (bit 64 x) (bit 32 x) l
 begun_flags false x l f h = h
 

@@ -16,6 +16,8 @@ returns g c =
     let one : c.write-result.result.0.sent ≡ 1 = omega (arith, c.write-result.ensures.count, c.new.ensures) in
     let first = ap (λ n. run g.P.Part.ops (open_with c.args.levels.now n (write_byte c.args.address)) c.args.board.now) (sym c.new.ensures) in
     record {
-      run = sends g.P.Part.ops c.args.levels.now c.args.address c.args.bytes.now c.args.board.now _ _ _ _ (sym c.is_err.ensures.value ∙ c.if-is_err.false) (first ∙ c.write-result.ensures.run) (ap (λ n. run g.P.Part.ops (send_all c.args.levels.now n c.args.bytes.now) c.write-result.new.board) (sym one) ∙ c.send_all.ensures.run);
+      run = sends g.P.Part.ops c.args.levels.now c.args.address c.args.bytes.now c.args.board.now _ _ _ _ (sym c.is_err.ensures.value ∙ c.if-is_err.false)
+          (first ∙ c.write-result.ensures.run) (ap (λ n. run g.P.Part.ops (send_all c.args.levels.now n c.args.bytes.now) c.write-result.new.board) (sym one)
+              ∙ c.send_all.ensures.run);
       count = subst (λ n. Sent (n + length c.args.bytes.now) c.send_all.result.0.sent c.send_all.result.1) one c.send_all.ensures.count;
     }

@@ -20,7 +20,8 @@ loop-call-preserved g c =
       length_push got c.call-answer.result ∙ ap (λ n. n + 1) c.loop-call.invariant.1,
       grown_more c.args.answers.now c.loop-call.answers c.append.new.self got _ grown (lt-ltb _ _ room) c.append.ensures.count c.append.ensures.items,
       c.append.ensures.lender ∙ c.loop-call.invariant.3,
-      answers_more g.P.Part.ops c.args.calls.now c.loop-call.call-index _ got c.call-answer.result c.loop-call.self _ c.loop-call-test.true c.call-answer.ensures.after c.call-answer.ensures.answer c.loop-call.invariant.4,
+      answers_more g.P.Part.ops c.args.calls.now c.loop-call.call-index _ got c.call-answer.result c.loop-call.self _ c.loop-call-test.true c.call-answer.ensures.after
+          c.call-answer.ensures.answer c.loop-call.invariant.4,
       board_more g.P.Part.ops c.args.calls.now c.loop-call.call-index _ c.loop-call.self _ c.loop-call-test.true c.call-answer.ensures.after c.loop-call.invariant.5,
     )
 
@@ -28,6 +29,7 @@ pub returns : goal.returns
 returns g c =
     record {
       after = board_all g.P.Part.ops c.args.calls.now c.loop-call.call-index c.loop-call.self c.loop-call-test.false c.loop-call.invariant.5;
-      answers = (c.loop-call.invariant.0, c.loop-call.invariant.2, answers_all g.P.Part.ops c.args.calls.now c.loop-call.call-index c.loop-call.invariant.0 c.loop-call.self c.loop-call-test.false c.loop-call.invariant.4);
+      answers = (c.loop-call.invariant.0, c.loop-call.invariant.2,
+          answers_all g.P.Part.ops c.args.calls.now c.loop-call.call-index c.loop-call.invariant.0 c.loop-call.self c.loop-call-test.false c.loop-call.invariant.4);
       lender = c.loop-call.invariant.3;
     }
