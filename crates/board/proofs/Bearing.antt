@@ -2,6 +2,7 @@
 use Rattle.std.proofs.Common.{◌≡◌, ℕ, suc, ◌/◌, ◌≤◌, Bool, true, false, cond, not, ◌&&◌, ◌⊎◌, List, [], ◌∷◌, length, eqb, ltb, Some, None, Option, refl, sym, ap, ◌∙◌, subst, inl, inr, arith}
 use borrow.Author.Tests.{clash, ltb-true, ltb-false, eqb-true, lt-ltb, eq-eqb, ne_eqb, not-true}
 use Rattle.std.proofs.lemmas.Bool.{and_parts, and_from}
+use Rattle.std.proofs.lemmas.Option.{none-some, same_Some}
 use Rattle.part.specs.declared.levels.Levels.{Levels}
 use Rattle.part.specs.Ops.{Ops}
 use Rattle.part.specs.Keeps.{Keeps, Fixed, Fades}
@@ -85,22 +86,11 @@ module _ {S : Type 0} (ops : Ops S) (keeps : Keeps ops) where
       longer [] x y v h = absurd h
       longer (z ∷ bs) x y v h = refl
 
-  abbrev counted : Option Transfer → ℕ
-  counted None = 0
-  counted (Some t) = 1
-
-  pub none_some : {t : Transfer} → ◌≡◌ {A = Option Transfer} None (Some t) → ⊥
-  none_some e = let z : ◌≡◌ {A = ℕ} 0 1 = ap counted e in omega arith
-
-  abbrev the : Option Transfer → Transfer
-  the None = transfer [] []
-  the (Some t) = t
-
   abbrev Facts : Transfer → S → ℕ → ℕ → Type 0
   Facts t s k v = Among v (carried (so_far t)) × (all_acked t.bytes ≡ true) × (reading t.bytes ≡ false) × (ops.owner s (address t.bytes / 2) ≡ Some k)
 
   pub facts : (answer : Bool) (t : Transfer) (s : S) (k v : ℕ) → Bears answer (Some t) s k v → Facts t s k v
-  facts answer t s k v r = subst (λ u. Facts u s k v) (sym (ap the r.is)) (r.carries, r.acked, r.writing, r.mine)
+  facts answer t s k v r = subst (λ u. Facts u s k v) (sym (same_Some t r.t r.is)) (r.carries, r.acked, r.writing, r.mine)
 
   abbrev offered_byte : Levels → Bool → List Byte → List Bool → Move
   offered_byte l w bs bits = offered l bs (value (w ∷ bits))
@@ -165,11 +155,11 @@ module _ {S : Type 0} (ops : Ops S) (keeps : Keeps ops) where
   rose_by false t w pulled answer byte l s p e h = λ k i v st. (
       let r = h k i v st in
       let f = facts answer t s k v r in
-      more_bits w pulled answer byte (Some t) s k v p r (λ z. clash (sym e ∙ rw (eq-eqb (length t.bits) 7 (ap (λ u. length u.bits) (ap the r.is) ∙ z), f.1, f.2) refl)) _ refl)
+      more_bits w pulled answer byte (Some t) s k v p r (λ z. clash (sym e ∙ rw (eq-eqb (length t.bits) 7 (ap (λ u. length u.bits) (same_Some t r.t r.is) ∙ z), f.1, f.2) refl)) _ refl)
 
   held_rose : (o : Option Transfer) (w pulled answer : Bool) (byte : ℕ) (l : Levels) (s : S) → pulled ≡ pulls_by false o answer byte → Held answer o s
       → Held (answer_after ops s (told (rose w) l o) answer) (rising w pulled o) (after ops s (told (rose w) l o))
-  held_rose None w pulled answer byte l s p h = λ k i v st. absurd (none_some (h k i v st).is)
+  held_rose None w pulled answer byte l s p h = λ k i v st. absurd (none-some _ (h k i v st).is)
   held_rose (Some t) w pulled answer byte l s p h = rose_by _ t w pulled answer byte l s p refl h
 
   -- every edge, of which the levels have reached the part
@@ -190,7 +180,7 @@ module _ {S : Type 0} (ops : Ops S) (keeps : Keeps ops) where
 
   rose_open : (o : Option Transfer) (w : Bool) (answer : Bool) (byte : ℕ) (l : Levels) (s : S) → Open answer o s → let p = pulls_by false o answer byte in
       Open (answer_after ops s (told (rose w) l o) answer) (rising w p o) (after ops s (told (rose w) l o))
-  rose_open None w answer byte l s h = λ t e. absurd (none_some e)
+  rose_open None w answer byte l s h = λ t e. absurd (none-some _ e)
   rose_open (Some u) w answer byte l s h = λ t e. held_rose (Some u) w _ answer byte l s refl (h u refl)
 
   pub open_edge : (c e d w : Bool) (l : Levels) (answer : Bool) (byte : ℕ) (o : Option Transfer) (s : S) → Open answer o s →

@@ -2,6 +2,7 @@
 use Rattle.std.proofs.Common.{◌≡◌, ℕ, zero, suc, ◌+◌, ◌-◌, ◌/◌, ◌%◌, ◌^◌, ◌≤◌, Bool, true, false, cond, ◌&&◌, ◌⊎◌, List, [], ◌∷◌, length, eqb, ltb, Some, None, Option, ◌≢◌, refl, sym, ap, ◌∙◌, subst, inl, inr, arith, lt-suc_self}
 use borrow.Author.Tests.{clash, eqb-true, eqb-false, ne_eqb}
 use Rattle.std.proofs.lemmas.Bool.{and_parts, cond-true, cases_eq}
+use Rattle.std.proofs.lemmas.Option.{none-some}
 use Rattle.part.specs.declared.levels.Levels.{Levels}
 use Rattle.part.specs.declared.power.PowerCut.{PowerCut}
 use Rattle.part.specs.Ops.{Ops}
@@ -17,10 +18,7 @@ use Rattle.board.specs.Wires.{Edge, steady, started, stopped, rose, fell, edge, 
 use Rattle.board.specs.Runs.{History, pulls_by, told, offered, edge_of, onward, state, history}
 use Rattle.board.specs.Cause.{Among, EachPulled, Writes, Written, Caused}
 use Rattle.board.proofs.Running.{Advances, advances, good}
-use Rattle.board.proofs.Bearing.{so_far, Bears, Open, facts, onto, onto_open, open_edge, none_some as no_transfer}
-
-none_some : {o : Option ℕ} {v : ℕ} → o ≡ None → o ≡ Some v → ⊥
-none_some e f = let z : ◌≡◌ {A = ℕ} 0 1 = cc in omega arith
+use Rattle.board.proofs.Bearing.{so_far, Bears, Open, facts, onto, onto_open, open_edge}
 
 -- in a transfer for writing every byte that is acknowledged was pulled for
 reading_more : (x : Byte) (bs : List Byte) → reading (x ∷ bs) ≡ false → reading bs ≡ false
@@ -140,7 +138,7 @@ module _ {S : Type 0} (ops : Ops S) (keeps : Keeps ops) where
       mine : k ≡ q → Fate b (Finish q) c h k i
       mine same = subst (λ j. Fate b (Finish q) c h j i) (sym same) (record {
         cell = store_or_not _ (ops.under b.part q i) _ _ refl (ap (λ s. ops.cell s q i) e ∙ f.stores i);
-        under = λ v u. absurd (none_some (f.ends i) (ap (λ s. ops.under s q i) (sym e) ∙ u));
+        under = λ v u. absurd (none-some v (sym (f.ends i) ∙ ap (λ s. ops.under s q i) (sym e) ∙ u));
       })
 
       others : (k ≢ q) → Fate b (Finish q) c h k i
@@ -149,7 +147,7 @@ module _ {S : Type 0} (ops : Ops S) (keeps : Keeps ops) where
   cut_fate : (b : Board S) (p : PowerCut) (c : Board S) (h : History) (k i : ℕ) → c.part ≡ ops.cut b.part p → Fate b (Cut p) c h k i
   cut_fate b p c h k i e = record {
     cell = by (eqb (p.mask / 2 ^ ops.offset b.part k i % 2) 1) refl;
-    under = λ v u. absurd (none_some (f.ends k i) (ap (λ s. ops.under s k i) (sym e) ∙ u));
+    under = λ v u. absurd (none-some v (sym (f.ends k i) ∙ ap (λ s. ops.under s k i) (sym e) ∙ u));
   }
     where
       f : Rattle.part.specs.Keeps.Cuts ops b.part p (ops.cut b.part p)
@@ -213,7 +211,7 @@ module _ {S : Type 0} (ops : Ops S) (keeps : Keeps ops) where
       → let n = onward ops b call c h in Open ops keeps n.answer n.opened c.part
   held_call b (Sample x) c h a held = held_sample (ltb x 32) b x c h refl a held
   held_call b (Finish q) c h a held = held_finish _ b q c h refl a held
-  held_call b (Cut p) c h a held = λ t e. absurd (no_transfer ops keeps e)
+  held_call b (Cut p) c h a held = λ t e. absurd (none-some _ e)
 
   -- a run from a board on which no transfer is open
   module _ (b : Board S) (closed : b.bus.phase ≡ Closed) (calls : ℕ → Call) where
@@ -227,7 +225,7 @@ module _ {S : Type 0} (ops : Ops S) (keeps : Keeps ops) where
     goes n = advances ops (B n) (calls n) (H n) (good ops b calls closed n)
 
     pub held : (n : ℕ) → Open ops keeps (H n).answer (H n).opened (B n).part
-    held zero = λ t e. absurd (no_transfer ops keeps e)
+    held zero = λ t e. absurd (none-some _ e)
     held (suc n) = held_call (B n) (calls n) (B (suc n)) (H n) (goes n) (held n)
 
     module _ (p k i : ℕ) where
@@ -266,7 +264,7 @@ module _ {S : Type 0} (ops : Ops S) (keeps : Keeps ops) where
       Outcome q = (ops.cell (B q).part k i ≡ ops.cell (B p).part k i) ⊎ W q (ops.cell (B q).part k i)
 
     caused_here : (p q k i : ℕ) → p ≤ q → ops.under (B p).part k i ≡ None → Outcome p k i q
-    caused_here p q k i le free = (sourced p k i (q - p) q (omega arith) (record { cell = inl refl; under = λ v u. absurd (none_some free u) })).cell
+    caused_here p q k i le free = (sourced p k i (q - p) q (omega arith) (record { cell = inl refl; under = λ v u. absurd (none-some v (sym free ∙ u)) })).cell
 
   pub caused : (b : Board S) → b.bus.phase ≡ Closed → Caused ops b
   unfolding Caused

@@ -2,6 +2,7 @@
 use Rattle.std.proofs.Common.{◌≡◌, ℕ, zero, suc, ◌/◌, Bool, true, false, cond, ◌&&◌, List, [], ◌∷◌, length, eqb, ltb, Some, Option, refl, sym, ap, ◌∙◌, subst, inl, inr, arith}
 use borrow.Author.Tests.{clash}
 use Rattle.std.proofs.lemmas.Bool.{and_parts, cond-true, cases_eq}
+use Rattle.std.proofs.lemmas.Option.{none-some}
 use Rattle.part.specs.declared.levels.Levels.{Levels}
 use Rattle.part.specs.declared.power.PowerCut.{PowerCut}
 use Rattle.part.specs.Ops.{Ops}
@@ -29,7 +30,7 @@ use Rattle.board.specs.Lock.{IsCut}
 use Rattle.board.proofs.Running.{Advances, advances, good, edge_same}
 use Rattle.board.proofs.Causing.{edge_tag, is_stopped, clean_some, one_rise, each_pulled}
 use Rattle.board.proofs.Seated.{addr, addr_is, EachMove, My, mine_or_not, guarded_after, waiting_after, calm_after, number_after, told_sendable, told_calm}
-use Rattle.board.proofs.Placing.{At, By, Open, Keeping, open_kept, level_keeping, open_edge, not_open}
+use Rattle.board.proofs.Placing.{At, By, Open, Keeping, open_kept, level_keeping, open_edge}
 
 not_stopped : (e : Edge) → e ≡ steady → e ≡ stopped → ⊥
 not_stopped e s h = let y : ◌≡◌ {A = ℕ} 0 1 = ap edge_tag (sym s ∙ h) in omega arith
@@ -116,7 +117,7 @@ module _ {S : Type 0} (ops : Ops S) (keeps : Keeps ops) (number : S → ℕ) (se
       → let n = onward ops b call c h in Open ops keeps number see seat n.answer n.opened c.part
   place_call b (Sample x) c h a p = place_sample (ltb x 32) b x c h refl a p
   place_call b (Finish q) c h a p = place_finish _ b q c h refl a p
-  place_call b (Cut w) c h a p = λ t e. absurd (not_open e)
+  place_call b (Cut w) c h a p = λ t e. absurd (none-some _ e)
 
   -- a run from a board on which no transfer is open and the chip is fresh
   module _ (b : Board S) (closed : b.bus.phase ≡ Closed) (new : see b.part ≡ fresh) (calls : ℕ → Call) where
@@ -148,7 +149,7 @@ module _ {S : Type 0} (ops : Ops S) (keeps : Keeps ops) (number : S → ℕ) (se
     waiting (suc n) = subst (λ s. Waiting (see s)) (sym (goes n).part) (waiting_after ops keeps number see seat (moves_of ops (B n) (calls n) (B (suc n)) (H n).opened) (B n).part (waiting n))
 
     placed : (n : ℕ) → Open ops keeps number see seat (H n).answer (H n).opened (B n).part
-    placed zero t e = absurd (not_open e)
+    placed zero t e = absurd (none-some _ e)
     placed (suc n) t e = place_call (B n) (calls n) (B (suc n)) (H n) (goes n) (placed n) t e
 
     -- what is asked of its number is asked of the chip

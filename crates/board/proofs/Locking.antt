@@ -2,6 +2,7 @@
 use Rattle.std.proofs.Common.{◌≡◌, ℕ, zero, suc, ◌+◌, ◌-◌, ◌<◌, ◌≤◌, Bool, true, false, ◌⊎◌, Some, None, Option, refl, sym, ap, ◌∙◌, subst, inl, inr, arith, lt-suc_self}
 use borrow.Author.Tests.{clash}
 use Rattle.std.proofs.lemmas.Bool.{cases_eq}
+use Rattle.std.proofs.lemmas.Option.{none-some}
 use Rattle.part.specs.declared.levels.Levels.{Levels}
 use Rattle.part.specs.declared.power.PowerCut.{PowerCut}
 use Rattle.part.specs.Ops.{Ops}
@@ -15,7 +16,7 @@ use Rattle.x9520.specs.Chip.{x9520}
 use Rattle.x9520.specs.Locks.{locks}
 use Rattle.x9520.specs.State.{fresh}
 use Rattle.x9520.specs.Register.{bit, stored_register}
-use Rattle.x9520.proofs.Lock.{Guarded, register_begins}
+use Rattle.x9520.proofs.Lock.{Guarded, guarded_step, none_by, register_begins}
 use Rattle.x9520.proofs.Calm.{CalmMove, calm_register, stop_byte, stop_tap, stop_locked, finish_either, finish_under, finish_tap, cut_either, cut_under}
 use Rattle.x9520.proofs.Place.{where_is}
 use Rattle.board.specs.declared.board.Board.{Board}
@@ -27,13 +28,6 @@ use Rattle.board.specs.Cause.{wp_of}
 use Rattle.board.specs.Lock.{IsCut, Registers, Opened, Locks, register}
 use Rattle.board.proofs.Events.{Event, calm, stops, finishes, cuts, event, guarded, cell_is, under_is, tap_is}
 use Rattle.board.proofs.Latching.{IsStop, clean_at, Armed, known, writes, one_byte}
-
-none_some : {o : Option ℕ} {v : ℕ} → o ≡ None → o ≡ Some v → ⊥
-none_some e f = let z : ◌≡◌ {A = ℕ} 0 1 = cc in omega arith
-
-no_some : (o : Option ℕ) → ((v : ℕ) → o ≡ Some v → ⊥) → o ≡ None
-no_some None h = refl
-no_some (Some v) h = absurd (h v refl)
 
 module _ {S : Type 0} (ops : Ops S) (keeps : Keeps ops) (number : S → ℕ) (see : S → X9520) (seat : Seat ops x9520 number see)
     (b : Board S) (closed : b.bus.phase ≡ Closed) (new : see b.part ≡ fresh) (calls : ℕ → Call) where
@@ -125,7 +119,7 @@ module _ {S : Type 0} (ops : Ops S) (keeps : Keeps ops) (number : S → ℕ) (se
 
     coming_at : (o : Option ℕ) (t : Bool) (n : ℕ) (c : X9520) → under_at c.eeprom 259 ≡ o → ((v : ℕ) → o ≡ Some v → (lock v ≡ true) ⊎ Op (suc n))
         → Op (suc n) ⊎ ((v : ℕ) → under_at c.eeprom 259 ≡ Some v → lock v ≡ true)
-    coming_at None t n c e f = inr (λ v u. absurd (none_some e u))
+    coming_at None t n c e f = inr (λ v u. absurd (none-some v (sym e ∙ u)))
     coming_at (Some v) t n c e f = elim (f v refl) [
       | inl h ↦ inr (λ u g. (let z : v ≡ u = (let y : ◌≡◌ {A = Option ℕ} (Some v) (Some u) = sym e ∙ g in (let x : v ≡ u = cc in x)) in subst (λ i. lock i ≡ true) z h))
       | inr o ↦ inl o
@@ -151,17 +145,17 @@ module _ {S : Type 0} (ops : Ops S) (keeps : Keeps ops) (number : S → ℕ) (se
         ]
       where
         level_guarded : (c : X9520) (l : Rattle.part.specs.declared.levels.Levels.Levels) → Guarded c → Guarded (x9520.level c l)
-        level_guarded c l g = Rattle.x9520.proofs.Lock.guarded_step c (Rattle.part.specs.Moves.levelling l) tt g
+        level_guarded c l g = guarded_step c (Rattle.part.specs.Moves.levelling l) tt g
 
     shut_event : (n : ℕ) → p ≤ n → n < q → Event ops keeps number see seat (B n) (calls n) (B (suc n)) (history ops b calls n) → Shut (C n) → Op (suc n) ⊎ Shut (C (suc n))
     shut_event n lo hi (calm m f c) r = inr (record { same = same_calm (C n) _ m r.shut r.same; shut = ap lock (calm_register (C n) _ m) ∙ r.shut; coming = λ v u. r.coming v (sym (m.under 259) ∙ u) })
     shut_event n lo hi (stops l low is st c) r = shut_stop n l lo low is st c r
     shut_event n lo hi (finishes is f c) r =
         inr (subst Shut (sym is) (record { same = same_finish (C n) r.same; shut = stored_lock _ _ _ (finish_either (C n) 259) r.shut r.coming;
-            coming = λ v u. absurd (none_some (finish_under (C n) 259) u) }))
+            coming = λ v u. absurd (none-some v (sym (finish_under (C n) 259) ∙ u)) }))
     shut_event n lo hi (cuts w is f c) r =
         inr (subst Shut (sym is) (record { same = same_cut n lo hi c (C n) w r.same; shut = stored_lock _ _ _ (cut_either (C n) w 259) r.shut r.coming;
-            coming = λ v u. absurd (none_some (cut_under (C n) w 259) u) }))
+            coming = λ v u. absurd (none-some v (sym (cut_under (C n) w 259) ∙ u)) }))
 
     one_on : (n : ℕ) → p ≤ n → n < q → Op n ⊎ Shut (C n) → Op (suc n) ⊎ Shut (C (suc n))
     one_on n lo hi (inl o) = inl (later n o)
@@ -188,15 +182,15 @@ module _ {S : Type 0} (ops : Ops S) (keeps : Keeps ops) (number : S → ℕ) (se
     -- a cell with nothing under way keeps its byte at a finish, or at a power cut
     rests : (i : ℕ) (old now : ℕ) (o : Option ℕ) → (now ≡ old) ⊎ (o ≡ Some now) → o ≡ None → now ≡ old
     rests i old now o (inl e) n = e
-    rests i old now o (inr e) n = absurd (none_some n e)
+    rests i old now o (inr e) n = absurd (none-some _ (sym n ∙ e))
 
     locked_byte : (i : ℕ) → locks (register ops b calls k p) i ≡ true → (ops.cell (B q).part k i ≡ ops.cell (B p).part k i) ⊎ Opened ops b calls k (λ r. locks r i) p q
     locked_byte i h = elim (unchanged (λ r. locks r i) (SameByte i) p q
         (λ c d m l s. (m.cells i ∙ s.0, m.under i ∙ s.1))
-        (λ c cl l g h s. (stop_byte (x9520.level c l) cl l i ∙ s.0, stop_locked (x9520.level c l) cl l (Rattle.x9520.proofs.Lock.guarded_step c (Rattle.part.specs.Moves.levelling l) tt g) i h ∙ s.1))
+        (λ c cl l g h s. (stop_byte (x9520.level c l) cl l i ∙ s.0, stop_locked (x9520.level c l) cl l (guarded_step c (Rattle.part.specs.Moves.levelling l) tt g) i h ∙ s.1))
         (λ c s. (rests i _ _ _ (finish_either c i) s.1 ∙ s.0, finish_under c i))
         (λ n lo hi cu c w s. (rests i _ _ _ (cut_either c w i) s.1 ∙ s.0, cut_under c w i))
-        le (refl, no_some _ (idle_cell i)) (ap (λ r. locks r i) (sym register_is) ∙ h) (idle_cell 259)) [
+        le (refl, none_by _ (idle_cell i)) (ap (λ r. locks r i) (sym register_is) ∙ h) (idle_cell 259)) [
           | inl o ↦ inr o
           | inr s ↦ inl (cell_is ops keeps number see seat b closed new calls q i ∙ s.0 ∙ sym (cell_is ops keeps number see seat b closed new calls p i))
         ]

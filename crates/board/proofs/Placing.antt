@@ -2,6 +2,7 @@
 use Rattle.std.proofs.Common.{◌≡◌, ℕ, ◌/◌, ◌%◌, ◌<◌, ◌≤◌, Bool, true, false, cond, not, ◌&&◌, List, [], ◌∷◌, length, eqb, ltb, Some, None, Option, refl, sym, ap, ◌∙◌, subst, inl, inr, arith}
 use borrow.Author.Tests.{clash, ltb-true, ltb-false, eqb-true, eqb-false, lt-ltb, eq-eqb, ne_eqb, not-true}
 use Rattle.std.proofs.lemmas.Bool.{and_parts, and_left}
+use Rattle.std.proofs.lemmas.Option.{none-some, same_Some}
 use Rattle.part.specs.declared.levels.Levels.{Levels}
 use Rattle.part.specs.Ops.{Ops}
 use Rattle.part.specs.Keeps.{Keeps}
@@ -18,17 +19,6 @@ use Rattle.board.specs.Runs.{pulls_by, told, offered, pulls_in, answer_after}
 use Rattle.board.proofs.Phases.{slot_low_sent}
 use Rattle.board.proofs.Bearing.{so_far}
 use Rattle.board.proofs.Seated.{addr, addr_is, My, mine_or_not}
-
-abbrev the : Option Transfer → Transfer
-the None = transfer [] []
-the (Some t) = t
-
-abbrev counted : Option Transfer → ℕ
-counted None = 0
-counted (Some t) = 1
-
-pub not_open : {t : Transfer} → ◌≡◌ {A = Option Transfer} None (Some t) → ⊥
-not_open e = let z : ◌≡◌ {A = ℕ} 0 1 = ap counted e in omega arith
 
 -- every byte is acknowledged, one without its ninth rise by the part's answer
 abbrev pub Alive : Bool → Transfer → Type 0
@@ -237,7 +227,7 @@ module _ {S : Type 0} (ops : Ops S) (keeps : Keeps ops) (number : S → ℕ) (se
       }
 
   opened_as : (answer : Bool) (o : Option Transfer) (u : Transfer) (s : S) → o ≡ Some u → Placed answer u s → Open answer o s
-  opened_as answer o u s e p t z = subst (λ v. Placed answer v s) (ap the (sym e ∙ z)) p
+  opened_as answer o u s e p t z = subst (λ v. Placed answer v s) (same_Some u t (sym e ∙ z)) p
 
   rose_by : (q r : Bool) (bs : List Byte) (bits : List Bool) (w pulled answer : Bool) (byte : ℕ) (l : Levels) (s : S) → (eqb (length bits) 7 && sending bs) ≡ q
       → ltb (length bits) 8 ≡ r → pulled ≡ pulls_by false (Some (transfer bs bits)) answer byte → Placed answer (transfer bs bits) s →
@@ -254,7 +244,7 @@ module _ {S : Type 0} (ops : Ops S) (keeps : Keeps ops) (number : S → ℕ) (se
 
   rose_open : (o : Option Transfer) (w : Bool) (answer : Bool) (byte : ℕ) (l : Levels) (s : S) → Open answer o s
       → Open (answer_after ops s (told (rose w) l o) answer) (rising w (pulls_by false o answer byte) o) (after ops s (told (rose w) l o))
-  rose_open None w answer byte l s h = λ t e. absurd (not_open e)
+  rose_open None w answer byte l s h = λ t e. absurd (none-some _ e)
   rose_open (Some t) w answer byte l s h = rose_by _ _ t.bytes t.bits w _ answer byte l s refl refl refl (h t refl)
 
   fell_by : (q : Bool) (answer : Bool) (o : Option Transfer) (s : S) (a : ℕ) → Open answer o s → let ms = cond q (giving_byte a ∷ []) [] in Open (answer_after ops s ms answer) o (after ops s ms)
@@ -273,7 +263,7 @@ module _ {S : Type 0} (ops : Ops S) (keeps : Keeps ops) (number : S → ℕ) (se
       Open (answer_after ops s (told (edge c e d w) l o) answer) (next (edge c e d w) (pulls_by c o answer byte) o) (after ops s (told (edge c e d w) l o))
   open_edge true true true true l answer byte o s h = h
   open_edge true true true false l answer byte o s h = begun answer s
-  open_edge true true false true l answer byte o s h = λ t e. absurd (not_open e)
+  open_edge true true false true l answer byte o s h = λ t e. absurd (none-some _ e)
   open_edge true true false false l answer byte o s h = h
   open_edge true false d w l answer byte o s h = fell_open o answer l s h
   open_edge false true d w l answer byte o s h = rose_open o w answer byte l s h

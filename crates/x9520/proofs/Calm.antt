@@ -1,6 +1,6 @@
 -- What each single move does to cells, latches and wipers: a move other than STOP, finish, cut and renewal changes no cell,
 -- sets no latch and moves no locked wiper; a STOP alone sets latches. Assumes nothing.
-use Rattle.std.proofs.Common.{◌≡◌, ℕ, Bool, true, false, cond, not, ◌&&◌, ◌⊎◌, Some, None, Option, unwrap_or, sym, refl, ap, ◌∙◌, inl, inr, ⊎_elim, eqb}
+use Rattle.std.proofs.Common.{◌≡◌, ℕ, Bool, true, false, cond, not, ◌&&◌, ◌⊎◌, Some, None, Option, unwrap_or, sym, refl, ap, ◌∙◌, inl, inr, eqb}
 use borrow.Author.Tests.{clash}
 use Rattle.std.specs.Option.{option_or}
 use Rattle.std.proofs.lemmas.Bool.{and_from, eqb-true}
@@ -81,7 +81,7 @@ taken_wel (moves store) l = refl
 taken_wel latches l = refl
 taken_wel stores l = refl
 
-taken_rwel : (v : Verdict) (l : Latches) → (latches_taken v l).rwel ≡ true → l.rwel ≡ true
+pub taken_rwel : (v : Verdict) (l : Latches) → (latches_taken v l).rwel ≡ true → l.rwel ≡ true
 taken_rwel refused l h = h
 taken_rwel barred l h = absurd (clash h)
 taken_rwel pages l h = h

@@ -3,6 +3,7 @@ use Rattle.std.proofs.Common.{◌≡◌, ℕ, ◌+◌, ◌/◌, ◌%◌, ◌<◌
 use borrow.Author.Tests.{clash}
 use Rattle.std.specs.Option.{option_or}
 use Rattle.std.proofs.lemmas.Bool.{and_parts, not-true, cond_both, cond-false, cond-true, eqb-true, ne_eqb, lt-ltb, le-ltb}
+use Rattle.std.proofs.lemmas.Option.{none-some}
 use Rattle.part.specs.declared.levels.Levels.{Levels}
 use Rattle.part.specs.Ops.{is}
 use Rattle.part.specs.Moves.{Move, starting, addressing, aiming, taking, giving, levelling, stopping, finishing, cutting, renewing, moved}
@@ -72,19 +73,16 @@ pub record Guarded (s : X9520) : Type 0 where
   pub held : (v : ℕ) → staged_at s.eeprom 259 ≡ Some v → (s.mode ≡ Storing v) × (s.latches.rwel ≡ true)
   pub storing : (v : ℕ) → s.mode ≡ Storing v → (bit 2 v ≡ true) × (staged_at s.eeprom 259 ≡ Some v) × ((i : ℕ) → i ≢ 259 → staged_at s.eeprom i ≡ None)
 
-not_some : {X : Type 0} (o : Option ℕ) (v : ℕ) → o ≡ None → o ≡ Some v → X
-not_some o v e f = let z : ◌≡◌ {A = ℕ} 0 1 = cc in absurd (omega arith)
-
 -- with nothing staged
 empty_guarded : (s : X9520) → s.counter < 256 → s.named < 3 → Empty s.eeprom → Unlocked s.eeprom → (mode_tag s.mode ≡ 7 → ⊥) → (is_busy s.eeprom ≡ true → s.mode ≡ Idle) → Guarded s
 empty_guarded s c n e u m b = record {
   counter_in = c;
   named_in = n;
-  free = λ i v h. not_some _ v (e i) h;
+  free = λ i v h. absurd (none-some v (sym (e i) ∙ h));
   unlocked = u;
   empty = λ h. e;
   idle = b;
-  held = λ v h. not_some _ v (e 259) h;
+  held = λ v h. absurd (none-some v (sym (e 259) ∙ h));
   storing = λ v h. absurd (m (ap mode_tag h));
 }
 
@@ -93,17 +91,17 @@ idle_guarded s c n e u m = empty_guarded s c n e u (λ z. let y : mode_tag s.mod
 
 -- with nothing under way
 ended : (e : Eeprom 260) → ((i : ℕ) → under_at e i ≡ None) → Unlocked e
-ended e n i v h = not_some _ v (n i) h
+ended e n i v h = absurd (none-some v (sym (n i) ∙ h))
 
--- an address byte, with whether it was heard
-not_held : (t : Bool) (d : Device) → mode_tag (cond t (Reading d) (Aiming d)) ≡ 7 → ⊥
-not_held true d h = omega arith
-not_held false d h = omega arith
+-- an address byte, with whether it was heard, leaves no byte held for the STOP
+pub heard_tag : (t : Bool) (d : Device) (n : ℕ) → 5 < n → n < 8 → mode_tag (cond t (Reading d) (Aiming d)) ≡ n → ⊥
+heard_tag true d n lo hi h = omega arith
+heard_tag false d n lo hi h = omega arith
 
 addressed : (t : Bool) (s : X9520) (x : ℕ) → hears s x ≡ t → Guarded s → Guarded (chip (unstages s.eeprom) s.dcps s.latches s.flags s.counter s.named (mode_after t x))
 addressed true s x e h =
     empty_guarded (chip (unstages s.eeprom) s.dcps s.latches s.flags s.counter s.named (mode_after true x)) h.counter_in h.named_in (unstages_staged s.eeprom) h.unlocked
-    (not_held (eqb (x % 2) 1) (device (x / 2)))
+    (heard_tag (eqb (x % 2) 1) (device (x / 2)) 7 (lit< tt) (lit< tt))
     (λ b. absurd (clash (sym (ap not b) ∙ (and_parts _ _ e).1)))
 addressed false s x e h = idle_guarded (chip (unstages s.eeprom) s.dcps s.latches s.flags s.counter s.named Idle) h.counter_in h.named_in (unstages_staged s.eeprom) h.unlocked refl
 
@@ -127,11 +125,12 @@ counts_in (Latching y) x n g h = h
 counts_in (Storing y) x n g h = h
 counts_in (Reading d) x n g h = h
 
-not_holding : (v : Aim) → mode_tag (aim_mode v) ≡ 7 → ⊥
-not_holding rejected h = omega arith
-not_holding (at_cell i) h = omega arith
-not_holding (names j store) h = omega arith
-not_holding opens h = omega arith
+-- nor does it
+pub aimed_tag : (v : Aim) (n : ℕ) → 5 < n → mode_tag (aim_mode v) ≡ n → ⊥
+aimed_tag rejected n lo h = omega arith
+aimed_tag (at_cell i) n lo h = omega arith
+aimed_tag (names j store) n lo h = omega arith
+aimed_tag opens n lo h = omega arith
 
 aimed_guarded : (s : X9520) (a : ℕ) (l : Levels) (x : ℕ) → x < 256 → Guarded s → Guarded (x9520.aim s a l x)
 aimed_guarded s a l x g h =
@@ -140,7 +139,7 @@ aimed_guarded s a l x g h =
     (named_by (is a (heard_in s.mode)) s.mode x s.named h.named_in)
     (unstages_staged s.eeprom)
     h.unlocked
-    (not_holding (aim_of s a x))
+    (aimed_tag (aim_of s a x) 7 (lit< tt))
     (λ b. ap (λ m. aim_mode (cond (is a (heard_in m)) (aim_in m x) rejected)) (h.idle b))
 
 -- a data byte, by what it was judged to do
@@ -246,7 +245,7 @@ moved_stored s x j h =
       unlocked = h.unlocked;
       empty = λ e. absurd (clash (sym e));
       idle = λ b. other_mode (DcpByte true) Idle (sym j.0 ∙ h.idle b) (λ z. omega arith);
-      held = λ v w. ⊎_elim (λ e. let c = h.named_in in absurd (omega arith)) (λ e. not_some _ v (none 259) e) (staged_one s.eeprom (256 + s.named) x 259 v w);
+      held = λ v w. ⊎_elim (λ e. let c = h.named_in in absurd (omega arith)) (λ e. absurd (none-some v (sym (none 259) ∙ e))) (staged_one s.eeprom (256 + s.named) x 259 v w);
       storing = λ v e. other_mode Moved (Storing v) e (λ z. omega arith);
     }
 
@@ -309,7 +308,7 @@ no_write e i (Some v) h n = absurd (n (busy_if e i v h))
 same_register : (s : X9520) (i v : ℕ) → staged_at s.eeprom i ≡ Some v → Guarded s → byte_at (finishes s.eeprom) 259 ≡ stored_register s
 same_register s i v w h =
     finishes_byte s.eeprom 259
-    ∙ unchanged (under_at s.eeprom 259) _ (no_write s.eeprom 259 (under_at s.eeprom 259) refl (λ b. not_some _ v (h.empty (ap may_stage (h.idle b)) i) w))
+    ∙ unchanged (under_at s.eeprom 259) _ (no_write s.eeprom 259 (under_at s.eeprom 259) refl (λ b. absurd (none-some v (sym (h.empty (ap may_stage (h.idle b)) i) ∙ w))))
 
 finished : (q : Bool) (s : X9520) → Guarded s → Guarded (chip (cond q (finishes s.eeprom) s.eeprom) s.dcps s.latches s.flags s.counter s.named s.mode)
 finished true s h = record {
@@ -396,7 +395,7 @@ guarded_step s (finishing k) b h = finished (eqb k 0) s h
 guarded_step s (cutting p) b h = idle_guarded (x9520.cut s p) (lit< tt) (lit< tt) (cuts_staged s.eeprom p.mask) (ended (cuts s.eeprom p.mask) (cuts_under s.eeprom p.mask)) refl
 guarded_step s renewing b h = guarded_fresh
 
-none_by : (o : Option ℕ) → ((v : ℕ) → o ≡ Some v → ⊥) → o ≡ None
+pub none_by : (o : Option ℕ) → ((v : ℕ) → o ≡ Some v → ⊥) → o ≡ None
 none_by None n = refl
 none_by (Some v) n = absurd (n v refl)
 

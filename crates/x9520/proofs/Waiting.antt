@@ -1,20 +1,20 @@
 -- With RWEL set, a byte that waits to change the latches is 00h, or has bits 2 and 1 set and changes nothing. Assumes nothing.
-use Rattle.std.proofs.Common.{◌≡◌, ℕ, ◌/◌, ◌%◌, Bool, true, false, cond, not, eqb, ◌⊎◌, sym, refl, ap, ◌∙◌, inl, inr, arith}
+use Rattle.std.proofs.Common.{◌≡◌, ℕ, ◌/◌, ◌%◌, Bool, true, false, not, eqb, ◌⊎◌, sym, refl, ap, ◌∙◌, inl, inr, arith, lit<}
 use borrow.Author.Tests.{clash}
 use Rattle.std.proofs.lemmas.Bool.{cond_both, eqb-true}
 use Rattle.part.specs.Ops.{is}
 use Rattle.part.specs.Moves.{Move, starting, addressing, aiming, taking, giving, levelling, stopping, finishing, cutting, renewing, moved}
 use Rattle.protection.specs.declared.latches.Latches.{Latches}
 use Rattle.protection.specs.Lock.{wp_forbids, locks_memory, locks_wipers}
-use Rattle.x9520.specs.declared.state.Device.{Device}
 use Rattle.x9520.specs.declared.state.Mode.{Mode}
 use Rattle.x9520.specs.declared.state.Mode.TheVariants.{Idle, Aiming, MemoryBytes, DcpByte, RegisterByte, Moved, Latching, Storing, Reading}
 use Rattle.x9520.specs.declared.state.X9520.{X9520}
 use Rattle.x9520.specs.Chip.{x9520, hears, latches_stopped}
 use Rattle.x9520.specs.Register.{bit, stored_register}
 use Rattle.x9520.specs.State.{fresh, heard_in, mode_after, device}
-use Rattle.x9520.specs.Writing.{Aim, rejected, at_cell, names, opens, aim_of, aim_mode, Verdict, refused, barred, pages, moves, latches, stores, memory_verdict, dcp_verdict, armed_verdict, register_verdict, verdict_in, verdict, mode_taken, latches_taken}
-use Rattle.x9520.proofs.Lock.{mode_tag}
+use Rattle.x9520.specs.Writing.{aim_of, Verdict, refused, barred, pages, moves, latches, stores, memory_verdict, dcp_verdict, armed_verdict, register_verdict, verdict_in, verdict, mode_taken}
+use Rattle.x9520.proofs.Lock.{mode_tag, other_mode, heard_tag, aimed_tag}
+use Rattle.x9520.proofs.Calm.{taken_rwel}
 
 -- a byte with bits 2 and 1 set
 abbrev pub Idles : ℕ → Type 0
@@ -22,9 +22,6 @@ Idles x = (bit 2 x ≡ true) × (bit 4 x ≡ true)
 
 abbrev pub Waiting : X9520 → Type 0
 Waiting s = (v : ℕ) → s.mode ≡ Latching v → s.latches.rwel ≡ true → (v ≡ 0) ⊎ Idles v
-
-none_waits : (m : Mode) (v : ℕ) {X : Type 0} → (mode_tag m ≡ 6 → ⊥) → m ≡ Latching v → X
-none_waits m v n e = absurd (n (ap mode_tag e))
 
 -- a data byte, by what it was judged to do
 abbrev Judged : Latches → ℕ → Verdict → Type 0
@@ -86,50 +83,32 @@ byte_waiting (Storing x) = 0
 byte_waiting (Reading d) = 0
 
 take_waits : (w : Verdict) (l : Latches) (x v : ℕ) → Judged l x w → mode_taken w x ≡ Latching v → (l.rwel ≡ true) → (v ≡ 0) ⊎ Idles v
-take_waits refused l x v j e h = none_waits Idle v (λ z. omega (arith, z)) e
-take_waits barred l x v j e h = none_waits Idle v (λ z. omega (arith, z)) e
-take_waits pages l x v j e h = none_waits MemoryBytes v (λ z. omega (arith, z)) e
-take_waits (moves store) l x v j e h = none_waits Moved v (λ z. omega (arith, z)) e
+take_waits refused l x v j e h = other_mode Idle (Latching v) e (λ z. omega arith)
+take_waits barred l x v j e h = other_mode Idle (Latching v) e (λ z. omega arith)
+take_waits pages l x v j e h = other_mode MemoryBytes (Latching v) e (λ z. omega arith)
+take_waits (moves store) l x v j e h = other_mode Moved (Latching v) e (λ z. omega arith)
 take_waits latches l x v j e h = rw (sym (ap byte_waiting e)) (j h)
-take_waits stores l x v j e h = none_waits (Storing x) v (λ z. omega (arith, z)) e
+take_waits stores l x v j e h = other_mode (Storing x) (Latching v) e (λ z. omega arith)
 
 -- an address byte and a first byte leave none waiting
-read_tag : (t : Bool) (d : Device) → mode_tag (cond t (Reading d) (Aiming d)) ≡ 6 → ⊥
-read_tag true d e = omega (arith, e)
-read_tag false d e = omega (arith, e)
-
 addressed_tag : (b : Bool) (x : ℕ) → mode_tag (mode_after b x) ≡ 6 → ⊥
-addressed_tag true x e = read_tag (eqb (x % 2) 1) (device (x / 2)) e
+addressed_tag true x e = heard_tag (eqb (x % 2) 1) (device (x / 2)) 6 (lit< tt) (lit< tt) e
 addressed_tag false x e = omega (arith, e)
 
-aimed_tag : (v : Aim) → mode_tag (aim_mode v) ≡ 6 → ⊥
-aimed_tag rejected e = omega (arith, e)
-aimed_tag (at_cell i) e = omega (arith, e)
-aimed_tag (names j store) e = omega (arith, e)
-aimed_tag opens e = omega (arith, e)
-
-taken_rwel : (w : Verdict) (l : Latches) → (latches_taken w l).rwel ≡ true → l.rwel ≡ true
-taken_rwel refused l e = e
-taken_rwel barred l e = absurd (clash e)
-taken_rwel pages l e = e
-taken_rwel (moves store) l e = e
-taken_rwel latches l e = e
-taken_rwel stores l e = e
-
 pub waiting_step : (s : X9520) (m : Move) → Waiting s → Waiting (moved x9520 s m)
-waiting_step s starting h v e r = none_waits Idle v (λ z. omega (arith, z)) e
-waiting_step s (addressing x) h v e r = none_waits _ v (addressed_tag (hears s x) x) e
-waiting_step s (aiming a l x) h v e r = none_waits _ v (aimed_tag (aim_of s a x)) e
+waiting_step s starting h v e r = other_mode Idle (Latching v) e (λ z. omega arith)
+waiting_step s (addressing x) h v e r = other_mode _ (Latching v) e (addressed_tag (hears s x) x)
+waiting_step s (aiming a l x) h v e r = other_mode _ (Latching v) e (aimed_tag (aim_of s a x) 6 (lit< tt))
 waiting_step s (taking a l x) h v e r = take_waits (verdict s a l.wp x) s.latches x v (judged s a l.wp x) e (taken_rwel (verdict s a l.wp x) s.latches r)
 waiting_step s (giving a) h v e r = h v e r
 waiting_step s (levelling l) h v e r = h v e r
-waiting_step s (stopping clean l) h v e r = none_waits Idle v (λ z. omega (arith, z)) e
+waiting_step s (stopping clean l) h v e r = other_mode Idle (Latching v) e (λ z. omega arith)
 waiting_step s (finishing k) h v e r = h v e r
-waiting_step s (cutting p) h v e r = none_waits Idle v (λ z. omega (arith, z)) e
-waiting_step s renewing h v e r = none_waits Idle v (λ z. omega (arith, z)) e
+waiting_step s (cutting p) h v e r = other_mode Idle (Latching v) e (λ z. omega arith)
+waiting_step s renewing h v e r = other_mode Idle (Latching v) e (λ z. omega arith)
 
 pub waiting_fresh : Waiting fresh
-waiting_fresh v e r = none_waits Idle v (λ z. omega (arith, z)) e
+waiting_fresh v e r = other_mode Idle (Latching v) e (λ z. omega arith)
 
 -- the STOP that begins a register cycle clears RWEL
 pub storing_disarms : (m : Mode) (v : ℕ) (c wp : Bool) (r : ℕ) (l : Latches) → m ≡ Storing v → c ≡ true → wp ≡ false → (latches_stopped m c wp r l).rwel ≡ false
