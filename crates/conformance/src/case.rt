@@ -1,8 +1,8 @@
 // A case: what is done to a fresh board, what is asked of it, and the answers that are expected.
 
+use crate::lists::Lists;
 use crate::moves::Moves;
 use crate::notes::Notes;
-use crate::room::Rows;
 use crate::tables::Table;
 use crate::wire::Wire;
 
@@ -28,7 +28,7 @@ pub enum Step {
     // Reads a recording into a row with room for so many transfers, and answers their lines.
     Recording(usize, &'static [Wire]),
     // What a job file cannot say.
-    Room(Rows),
+    Lists(Lists),
     Notes(Notes),
     Moves(Moves),
     Table(Table),

@@ -5,11 +5,7 @@ use crate::case::Step::{Cell, Do, Run, Tap, Wires};
 use crate::files::{CUT_LOSING, DISABLE, FINISH_0, READ_DCP, WEL};
 use crate::wire::Wire::{Bits, Bytes, Raw, Start};
 
-pub(super) fn cases() -> &'static [Case] {
-    TABLE
-}
-
-static TABLE: &[Case] = &[
+pub static CASES: &[Case] = &[
     Case {
         name: "first bytes 00h, 01h, 02h, 80h, 81h and 82h get an ACK",
         steps: &[

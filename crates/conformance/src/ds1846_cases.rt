@@ -5,11 +5,7 @@ use crate::case::Step::{Cell, Do, Run, Tap, Wires};
 use crate::files::{CUT_LOSING, DS1846_BUSY, FINISH_1, READ_DS1846};
 use crate::wire::Wire::{Bytes, Levels, Start, Stop};
 
-pub(super) fn cases() -> &'static [Case] {
-    TABLE
-}
-
-static TABLE: &[Case] = &[
+pub static CASES: &[Case] = &[
     Case {
         // 0Bh to 0Fh, then 08h to 0Ah, then 0Bh once more
         name: "a page of eight rolls over, a ninth byte replaces the first, and the counter follows",

@@ -5,11 +5,7 @@ use crate::case::Step::{Cell, Do, Lines, Run, SameAs, Set, Wires};
 use crate::files::{DS1846_BUSY, FINISH_1, READ_DS1846, RECOVER};
 use crate::wire::Wire::{Bytes, Start};
 
-pub(super) fn cases() -> &'static [Case] {
-    TABLE
-}
-
-static TABLE: &[Case] = &[
+pub static CASES: &[Case] = &[
     Case {
         // cell 11h holds CDh; ABh is staged for cell 10h and dropped by the repeated START
         name: "the aim bytes of a read are followed by a repeated START, which drops what they staged",

@@ -5,11 +5,7 @@ use crate::case::Case;
 use crate::case::Step::{Do, Run, RunInto, SameAs};
 use crate::files::X9520_BUSY;
 
-pub(super) fn cases() -> &'static [Case] {
-    TABLE
-}
-
-static TABLE: &[Case] = &[
+pub static CASES: &[Case] = &[
     Case {
         name: "an empty file has no jobs",
         steps: &[Run(&[]), SameAs(&[])],

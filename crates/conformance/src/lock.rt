@@ -9,11 +9,7 @@ use crate::files::{
 };
 use crate::wire::Wire::{Bytes, Levels, Start, Stop};
 
-pub(super) fn cases() -> &'static [Case] {
-    TABLE
-}
-
-static TABLE: &[Case] = &[
+pub static CASES: &[Case] = &[
     Case {
         name: "BL 00: no memory is locked",
         steps: &[Do(WEL), Run(&[1, 0x50, 2, 0xff, 0x55])],

@@ -21,7 +21,6 @@ mod recordings;
 mod recoveries;
 mod refused;
 mod register;
-mod room;
 mod samples;
 mod setup;
 mod tables;
@@ -37,26 +36,26 @@ use tally::{Chips, Tally};
 // The cases on a board with an X9520 and a DS1846.
 fn run_all(rt: &(impl Print + AllocGlobal), tally: &mut Tally) -> anyhow::Result<()> {
     let groups = [
-        samples::cases(),
-        transfers::cases(),
-        refused::cases(),
-        no_ack::cases(),
-        room::cases(),
-        parts::cases(),
-        ds1846_cases::cases(),
-        memory::cases(),
-        register::cases(),
-        protected::cases(),
-        lock::cases(),
-        dcps::cases(),
-        wipers::cases(),
-        jobs::cases(),
-        recoveries::cases(),
-        limits::cases(),
-        notes::cases(),
-        moves::cases(),
-        tables::cases(),
-        recordings::cases(),
+        samples::CASES,
+        transfers::CASES,
+        refused::CASES,
+        no_ack::CASES,
+        lists::CASES,
+        parts::CASES,
+        ds1846_cases::CASES,
+        memory::CASES,
+        register::CASES,
+        protected::CASES,
+        lock::CASES,
+        dcps::CASES,
+        wipers::CASES,
+        jobs::CASES,
+        recoveries::CASES,
+        limits::CASES,
+        notes::CASES,
+        moves::CASES,
+        tables::CASES,
+        recordings::CASES,
     ];
     for group in groups {
         tally.run(rt, Chips::X9520Ds1846, group)?;

@@ -5,11 +5,7 @@ use crate::case::Step::{Cell, Do, Lines, Run, Set, Wires};
 use crate::files::{CUT_LOSING, DISABLE, FINISH_0, READ_MEMORY, WEL, X9520_BUSY};
 use crate::wire::Wire::{Bytes, Levels, Start, Stop};
 
-pub(super) fn cases() -> &'static [Case] {
-    TABLE
-}
-
-static TABLE: &[Case] = &[
+pub static CASES: &[Case] = &[
     Case {
         // 05h to 0Fh, then 00h to 04h, then 05h once more
         name: "a page of sixteen rolls over, a seventeenth byte replaces the first, and the counter follows",

@@ -30,11 +30,7 @@ pub enum Moves {
     Renewed,
 }
 
-pub(super) fn cases() -> &'static [Case] {
-    TABLE
-}
-
-static TABLE: &[Case] = &[
+pub static CASES: &[Case] = &[
     Case {
         name: "a byte fetched with no read open is FFh",
         steps: &[Step::Moves(Moves::Fetched)],

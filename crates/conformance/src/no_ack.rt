@@ -5,11 +5,7 @@ use crate::case::Step::{Cell, Do, Lines, Run, Set, Wires};
 use crate::files::{DS1846_BUSY, FINISH_0, FINISH_1, RECOVER, WEL, X9520_BUSY};
 use crate::wire::Wire::{Bytes, Start};
 
-pub(super) fn cases() -> &'static [Case] {
-    TABLE
-}
-
-static TABLE: &[Case] = &[
+pub static CASES: &[Case] = &[
     Case {
         name: "write, byte 0: the address of a busy chip, and one that no part has",
         steps: &[

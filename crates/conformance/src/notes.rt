@@ -27,11 +27,7 @@ pub enum Notes {
     ByHand,
 }
 
-pub(super) fn cases() -> &'static [Case] {
-    TABLE
-}
-
-static TABLE: &[Case] = &[
+pub static CASES: &[Case] = &[
     Case {
         name: "a poll makes no note",
         steps: &[Step::Notes(Notes::Poll)],

@@ -5,11 +5,7 @@ use crate::case::Step::{Cell, Do, Run, Tap, Wires};
 use crate::files::{CUT_STORING, DS1846_BUSY, FINISH_0, FINISH_1, WEL, X9520_BUSY};
 use crate::wire::Wire::{Bits, Bytes, Raw, Start};
 
-pub(super) fn cases() -> &'static [Case] {
-    TABLE
-}
-
-static TABLE: &[Case] = &[
+pub static CASES: &[Case] = &[
     Case {
         name: "a finish reaches one part alone; the other goes on with its write",
         steps: &[

@@ -6,11 +6,7 @@ use crate::case::Step::{Cell, Do, Run, Set, Tap, Wires};
 use crate::files::{BOTH_LATCHES, FINISH_0, LOCK_QUARTER, READ_REGISTER, RWEL, WEL};
 use crate::wire::Wire::{Bytes, Levels, Start, Stop};
 
-pub(super) fn cases() -> &'static [Case] {
-    TABLE
-}
-
-static TABLE: &[Case] = &[
+pub static CASES: &[Case] = &[
     Case {
         name: "BL 00: a latch byte is taken with WP HIGH throughout",
         steps: &[

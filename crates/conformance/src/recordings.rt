@@ -6,11 +6,7 @@ use crate::case::Case;
 use crate::case::Step::Recording;
 use crate::wire::Wire::{Acked, Bits, Bytes, Levels, Raw, Start, Stop};
 
-pub(super) fn cases() -> &'static [Case] {
-    TABLE
-}
-
-static TABLE: &[Case] = &[
+pub static CASES: &[Case] = &[
     Case {
         name: "recording: a write with a clean STOP",
         steps: &[Recording(2, &[Start, Acked(&[0xa2, 0x10, 0xab]), Stop])],

@@ -5,11 +5,7 @@ use crate::case::Step::{Do, Lines, Run, RunInto, SameAs, Set, Tap, Wires};
 use crate::files::{FINISH_1, RECOVER, WEL};
 use crate::wire::Wire::{Bits, Bytes, Raw, Start};
 
-pub(super) fn cases() -> &'static [Case] {
-    TABLE
-}
-
-static TABLE: &[Case] = &[
+pub static CASES: &[Case] = &[
     Case {
         name: "a recovery of idle wires is one clock, and leaves the board as it was",
         steps: &[Run(RECOVER), SameAs(&[])],

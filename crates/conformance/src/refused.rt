@@ -5,11 +5,7 @@ use crate::case::Step::{Cell, Do, Lines, Run, SameAs, Set, Tap, Wires};
 use crate::files::{DS1846_BUSY, FINISH_0, FINISH_1, RECOVER};
 use crate::wire::Wire::{Bytes, Start, Stop};
 
-pub(super) fn cases() -> &'static [Case] {
-    TABLE
-}
-
-static TABLE: &[Case] = &[
+pub static CASES: &[Case] = &[
     Case {
         name: "refusal 1: samples of which one is bad are not given, nor those before it",
         steps: &[Run(&[7, 3, 0x03, 0x01, 0x23]), SameAs(&[])],

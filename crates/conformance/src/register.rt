@@ -6,11 +6,7 @@ use crate::case::Step::{Cell, Do, Run, Set, Wires};
 use crate::files::{BOTH_LATCHES, CUT_LOSING, DISABLE, FINISH_0, READ_REGISTER, RWEL, WEL};
 use crate::wire::Wire::{Bits, Bytes, Start, Stop};
 
-pub(super) fn cases() -> &'static [Case] {
-    TABLE
-}
-
-static TABLE: &[Case] = &[
+pub static CASES: &[Case] = &[
     Case {
         name: "06h without WEL gets no ACK",
         steps: &[Run(RWEL), Run(READ_REGISTER)],

@@ -6,11 +6,7 @@ use crate::case::Step::{Do, Run, SameAs, Set, Wires};
 use crate::files::{BOTH_LATCHES, FINISH_0, FINISH_1, READ_REGISTER, RECOVER};
 use crate::wire::Wire::{Bits, Bytes, Levels, Raw, Start, Stop};
 
-pub(super) fn cases() -> &'static [Case] {
-    TABLE
-}
-
-static TABLE: &[Case] = &[
+pub static CASES: &[Case] = &[
     Case {
         name: "sample 1Fh is accepted and 20h is refused",
         steps: &[Wires(&[Raw(&[0x1f, 0x20])])],

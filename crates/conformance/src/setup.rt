@@ -68,7 +68,7 @@ impl<P: Part + Drop + PartialEq> Setup<P> {
             Step::Wires(wires) => self.wires(wires),
             Step::Recording(room, wires) => self.recording(room, wires),
             Step::SameAs(file) => self.same_as(file, other),
-            Step::Room(rows) => Ok(rows.perform(&mut self.board, &mut self.told)?),
+            Step::Lists(lists) => Ok(lists.perform(&mut self.board, &mut self.told)?),
             Step::Notes(notes) => Ok(notes.perform(&mut self.board, &mut self.told)?),
             Step::Moves(moves) => {
                 moves.perform(&mut self.told);

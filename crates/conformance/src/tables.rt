@@ -18,11 +18,7 @@ pub enum Table {
     Cells,
 }
 
-pub(super) fn cases() -> &'static [Case] {
-    TABLES
-}
-
-static TABLES: &[Case] = &[
+pub static CASES: &[Case] = &[
     Case {
         name: "register bytes by lock bits, latches and WP: the ACK, and a read after STOP and finish",
         steps: &[Step::Table(Table::Register)],

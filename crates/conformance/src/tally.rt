@@ -65,7 +65,7 @@ impl Tally {
     }
 
     // Prints the line of a case.
-    pub(super) fn tell(
+    fn tell(
         &mut self,
         rt: &impl Print,
         name: &str,

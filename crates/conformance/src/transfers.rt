@@ -6,11 +6,7 @@ use crate::case::Step::{Do, Run, Wires};
 use crate::files::{CUT_STORING, DS1846_BUSY, FINISH_1, READ_DS1846};
 use crate::wire::Wire::{Acked, Bits, Bytes, Levels, Raw, Start, Stop};
 
-pub(super) fn cases() -> &'static [Case] {
-    TABLE
-}
-
-static TABLE: &[Case] = &[
+pub static CASES: &[Case] = &[
     Case {
         name: "after a STOP nothing is taken until START",
         steps: &[Wires(&[Start, Stop, Bytes(&[0xa2]), Start, Bytes(&[0xa2])])],

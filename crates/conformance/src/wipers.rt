@@ -5,11 +5,7 @@ use crate::case::Step::{Cell, Do, Run, Tap, Wires};
 use crate::files::{CUT_LOSING, FINISH_0, READ_DCP, WEL};
 use crate::wire::Wire::{Bits, Bytes, Raw, Start};
 
-pub(super) fn cases() -> &'static [Case] {
-    TABLE
-}
-
-static TABLE: &[Case] = &[
+pub static CASES: &[Case] = &[
     Case {
         name: "a byte with WT 1 moves the wiper at once and is stored at its finish",
         steps: &[
