@@ -41,7 +41,7 @@ module _ {S : Type 0} (ops : Ops S) (keeps : Keeps ops) where
       let r = h k i v (faded _ _ v (f k i) e) in
       record { t = r.t; is = r.is; few = r.few; acked = r.acked; writing = r.writing; mine = x.owner _ ∙ r.mine; answered = r.answered; carries = r.carries }
 
-  pub unstaged : (answer : Bool) (o : Option Transfer) (u : S) → ((k i : ℕ) → ops.staged u k i ≡ None) → Held answer o u
+  unstaged : (answer : Bool) (o : Option Transfer) (u : S) → ((k i : ℕ) → ops.staged u k i ≡ None) → Held answer o u
   unstaged answer o u n k i v e = let f = n k i in let z : ◌≡◌ {A = ℕ} 0 1 = cc in absurd (omega arith)
 
   -- a rise at which nothing is offered: a bit more, or the ninth

@@ -224,7 +224,7 @@ module _ {S : Type 0} (ops : Ops S) (keeps : Keeps ops) where
     goes : (n : ℕ) → Advances ops (B n) (calls n) (B (suc n)) (H n)
     goes n = advances ops (B n) (calls n) (H n) (good ops b calls closed n)
 
-    pub held : (n : ℕ) → Open ops keeps (H n).answer (H n).opened (B n).part
+    held : (n : ℕ) → Open ops keeps (H n).answer (H n).opened (B n).part
     held zero = λ t e. absurd (none-some _ e)
     held (suc n) = held_call (B n) (calls n) (B (suc n)) (H n) (goes n) (held n)
 

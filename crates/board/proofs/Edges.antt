@@ -21,7 +21,7 @@ use Rattle.board.specs.Runs.{free, ack, slot, pulls_in, pulls_by, offered, told,
 use Rattle.board.proofs.Phases.{Fits, Dead, Deafened, Coming, Due, Risen, Shifts, Gives, Ninth, Tied, not_giving, not_sending, given_some, pull_of}
 
 -- a number of seven bits or fewer
-pub bit_le : (b : Bool) → bit_value b ≤ 1
+bit_le : (b : Bool) → bit_value b ≤ 1
 bit_le true = omega arith
 bit_le false = omega arith
 

@@ -136,7 +136,7 @@ module _ {S : Type 0} (ops : Ops S) (keeps : Keeps ops) (number : S → ℕ) (se
     pub event : (n : ℕ) → Event (B n) (calls n) (B (suc n)) (H n)
     event n = event_of (B n) (calls n) (B (suc n)) (H n) (goes n)
 
-    pub number_is : (n : ℕ) → number (B n).part ≡ number b.part
+    number_is : (n : ℕ) → number (B n).part ≡ number b.part
     number_is zero = refl
     number_is (suc n) = ap number (goes n).part ∙ number_after ops keeps number see seat (moves_of ops (B n) (calls n) (B (suc n)) (H n).opened) (B n).part ∙ number_is n
 

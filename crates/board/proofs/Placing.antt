@@ -1,5 +1,5 @@
 -- In an acknowledged transfer so far, an X9520 on the board stands where the bytes of that transfer have brought it. Assumes nothing.
-use Rattle.std.proofs.Common.{◌≡◌, ℕ, ◌/◌, ◌%◌, ◌<◌, ◌≤◌, Bool, true, false, cond, not, ◌&&◌, List, [], ◌∷◌, length, eqb, ltb, Some, None, Option, refl, sym, ap, ◌∙◌, subst, inl, inr, arith}
+use Rattle.std.proofs.Common.{◌≡◌, ℕ, ◌/◌, ◌%◌, ◌<◌, ◌≤◌, Bool, true, false, cond, not, ◌&&◌, List, [], ◌∷◌, length, eqb, ltb, Some, None, Option, ◌≢◌, refl, sym, ap, ◌∙◌, subst, inl, inr, arith}
 use borrow.Author.Tests.{clash, ltb-true, ltb-false, eqb-true, eqb-false, lt-ltb, eq-eqb, ne_eqb, not-true}
 use Rattle.std.proofs.lemmas.Bool.{and_parts, and_left}
 use Rattle.std.proofs.lemmas.Option.{none-some, same_Some}
@@ -7,7 +7,7 @@ use Rattle.part.specs.declared.levels.Levels.{Levels}
 use Rattle.part.specs.Ops.{Ops}
 use Rattle.part.specs.Keeps.{Keeps}
 use Rattle.part.specs.Moves.{addressing, aiming, taking, levelling, giving as giving_byte, moved, after}
-use Rattle.part.specs.Seats.{Seat}
+use Rattle.part.specs.Seats.{Seat, Routed, Aside}
 use Rattle.x9520.specs.declared.state.X9520.{X9520}
 use Rattle.x9520.specs.declared.state.Mode.TheVariants.{Idle}
 use Rattle.x9520.specs.Chip.{x9520}
@@ -90,78 +90,56 @@ module _ {S : Type 0} (ops : Ops S) (keeps : Keeps ops) (number : S → ℕ) (se
   give_keeping : (s : S) (a : ℕ) → Keeping s (ops.give s a)
   give_keeping s a = record { mode = give_mode_is s a; owner = (keeps.gives s a).calm.fixed.owner; number_is = seat.fixed s (giving_byte a) }
 
-  -- a whole byte, offered and acknowledged
-  address_by : (s : S) (x : ℕ) → (see s).mode ≡ Idle → ops.hears s x ≡ true → By (ops.address s x) (x ∷ [])
-  address_by s x idle ack =
-      let own = (keeps.addresses s x).fixed.owner (x / 2) in
-      let num = seat.fixed s (addressing x) in
-      elim (mine_or_not ops keeps number see seat s (x / 2)) [
-        | inl m ↦ elim (seat.address s x m) [
-          | inl r ↦ (let p : where_is (see (ops.address s x)).mode ≡ place (x ∷ []) = ap (λ c. where_is c.mode) r.1 ∙ address_place (see s) x (sym r.0 ∙ ack) in record {
-            writing = λ w e. p;
-            reading = λ w e. ap (λ c. where_is c.mode) r.1 ∙ read_address (see s) x (eqb-true (x % 2) 1 e);
-            aside = λ n. absurd (n (own ∙ m ∙ ap Some (sym num)));
-          })
-          | inr r ↦ absurd (clash (sym r.0 ∙ ack))
+  -- A byte that the part is handed under the address byte a, and acknowledges: the chip is at its place where it keeps place with the bytes
+  -- under an address that its number owns, and idles under any other.
+  handed : (s t : S) (c : X9520) (a : ℕ) (xs : List ℕ) (got own : Bool) → ops.owner t (a / 2) ≡ ops.owner s (a / 2) → number t ≡ number s → got ≡ true
+      → (Mine s (a / 2) → Routed got own (see t) c (see s) (x9520.start (see s)))
+      → ((Mine s (a / 2) → ⊥) → Aside ops x9520 number see s (a / 2) (see t) c)
+      → (own ≡ true → Mine s (a / 2) → odd a ≡ false → where_is c.mode ≡ place xs) → (odd a ≡ true → where_is c.mode ≡ outside)
+      → ((Mine s (a / 2) → ⊥) → ((see s).mode ≡ Idle) × (x9520.owner (see s) (a / 2) ≢ Some 0 → c.mode ≡ Idle)) → At t a xs
+  handed s t c a xs got own owner num ack mine other writes reads idles =
+      elim (mine_or_not ops keeps number see seat s (a / 2)) [
+        | inl m ↦ elim (mine m) [
+          | inl q ↦ record {
+            writing = λ w e. ap (λ z. where_is z.mode) q.1 ∙ writes (sym q.0 ∙ ack) m e;
+            reading = λ w e. ap (λ z. where_is z.mode) q.1 ∙ reads e;
+            aside = λ n. absurd (n (owner ∙ m ∙ ap Some (sym num)));
+          }
+          | inr q ↦ absurd (clash (sym q.0 ∙ ack))
         ]
         | inr n ↦ (
-            let still : (see (ops.address s x)).mode ≡ Idle = elim (seat.address_other s x n) [
-              | inl r ↦ ap (λ c. c.mode) r ∙ idle
-              | inr r ↦ ap (λ c. c.mode) r.0 ∙ unacked_address (see s) x (and_left (known (x / 2)) _ (unowned (known (x / 2)) r.1))
+            let still : (see t).mode ≡ Idle = elim (other n) [
+              | inl q ↦ ap (λ z. z.mode) q ∙ (idles n).0
+              | inr q ↦ ap (λ z. z.mode) q.0 ∙ (idles n).1 q.1
             ] in
-            let not_mine : Mine (ops.address s x) (x / 2) → ⊥ = λ w. n (sym own ∙ w ∙ ap Some num) in
+            let not_mine : Mine t (a / 2) → ⊥ = λ w. n (sym owner ∙ w ∙ ap Some num) in
             record { writing = λ w e. absurd (not_mine w); reading = λ w e. absurd (not_mine w); aside = λ w. still })
       ]
 
+  -- a whole byte, offered and acknowledged
+  address_by : (s : S) (x : ℕ) → (see s).mode ≡ Idle → ops.hears s x ≡ true → By (ops.address s x) (x ∷ [])
+  address_by s x idle ack =
+      handed s (ops.address s x) (x9520.address (see s) x) x (x ∷ []) _ _ ((keeps.addresses s x).fixed.owner (x / 2)) (seat.fixed s (addressing x)) ack
+      (seat.address s x) (seat.address_other s x) (λ own m e. address_place (see s) x own) (λ e. read_address (see s) x (eqb-true (x % 2) 1 e))
+      (λ n. (idle, λ q. unacked_address (see s) x (and_left (known (x / 2)) _ (unowned (known (x / 2)) q))))
+
   -- a byte after others
-  aim_by : (s : S) (a : ℕ) (l : Levels) (x b : ℕ) (bs : List ℕ) → a ≡ addr (b ∷ bs) → odd a ≡ false → ops.aims s a l x ≡ true → At s a (b ∷ bs) → At (ops.aim s a l x) a (x ∷ (b ∷ bs))
-  aim_by s a l x b bs e even ack r =
-      let own = (keeps.aiming s a l x).calm.fixed.owner (a / 2) in
-      let num = seat.fixed s (aiming a l x) in
-      elim (mine_or_not ops keeps number see seat s (a / 2)) [
-        | inl m ↦ elim (seat.aim s a l x m) [
-          | inl q ↦ record {
-            writing = λ w z. ap (λ c. where_is c.mode) q.1 ∙ aim_place (see s) a l x b bs (r.writing m even) (sym q.0 ∙ ack);
-            reading = λ w z. absurd (clash (sym even ∙ z));
-            aside = λ n. absurd (n (own ∙ m ∙ ap Some (sym num)));
-          }
-          | inr q ↦ absurd (clash (sym q.0 ∙ ack))
-        ]
-        | inr n ↦ (
-            let still : (see (ops.aim s a l x)).mode ≡ Idle = elim (seat.aim_other s a l x n) [
-              | inl q ↦ ap (λ c. c.mode) q ∙ r.aside n
-              | inr q ↦ ap (λ c. c.mode) q.0 ∙ idle_aim (see s) (r.aside n) a l x
-            ] in
-            let not_mine : Mine (ops.aim s a l x) (a / 2) → ⊥ = λ w. n (sym own ∙ w ∙ ap Some num) in
-            record { writing = λ w z. absurd (not_mine w); reading = λ w z. absurd (not_mine w); aside = λ w. still })
-      ]
+  aim_by : (s : S) (a : ℕ) (l : Levels) (x b : ℕ) (bs : List ℕ) → odd a ≡ false → ops.aims s a l x ≡ true → At s a (b ∷ bs) → At (ops.aim s a l x) a (x ∷ (b ∷ bs))
+  aim_by s a l x b bs even ack r =
+      handed s (ops.aim s a l x) (x9520.aim (see s) a l x) a (x ∷ (b ∷ bs)) _ _ ((keeps.aiming s a l x).calm.fixed.owner (a / 2)) (seat.fixed s (aiming a l x)) ack
+      (seat.aim s a l x) (seat.aim_other s a l x) (λ own m e. aim_place (see s) a l x b bs (r.writing m e) own) (λ z. absurd (clash (sym even ∙ z)))
+      (λ n. (r.aside n, λ q. idle_aim (see s) (r.aside n) a l x))
 
   take_by : (s : S) (a : ℕ) (l : Levels) (x b : ℕ) (bs : List ℕ) → odd a ≡ false → ops.takes s a l x ≡ true → At s a (b ∷ bs) → At (ops.take s a l x) a (x ∷ (b ∷ bs))
   take_by s a l x b bs even ack r =
-      let own = (keeps.taking s a l x).fixed.owner (a / 2) in
-      let num = seat.fixed s (taking a l x) in
-      elim (mine_or_not ops keeps number see seat s (a / 2)) [
-        | inl m ↦ elim (seat.take s a l x m) [
-          | inl q ↦ record {
-            writing = λ w z. ap (λ c. where_is c.mode) q.1 ∙ take_place (see s) a l x b bs (r.writing m even) (sym q.0 ∙ ack);
-            reading = λ w z. absurd (clash (sym even ∙ z));
-            aside = λ n. absurd (n (own ∙ m ∙ ap Some (sym num)));
-          }
-          | inr q ↦ absurd (clash (sym q.0 ∙ ack))
-        ]
-        | inr n ↦ (
-            let still : (see (ops.take s a l x)).mode ≡ Idle = elim (seat.take_other s a l x n) [
-              | inl q ↦ ap (λ c. c.mode) q ∙ r.aside n
-              | inr q ↦ ap (λ c. c.mode) q.0 ∙ idle_take (see s) (r.aside n) a l x
-            ] in
-            let not_mine : Mine (ops.take s a l x) (a / 2) → ⊥ = λ w. n (sym own ∙ w ∙ ap Some num) in
-            record { writing = λ w z. absurd (not_mine w); reading = λ w z. absurd (not_mine w); aside = λ w. still })
-      ]
+      handed s (ops.take s a l x) (x9520.take (see s) a l x) a (x ∷ (b ∷ bs)) _ _ ((keeps.taking s a l x).fixed.owner (a / 2)) (seat.fixed s (taking a l x)) ack
+      (seat.take s a l x) (seat.take_other s a l x) (λ own m e. take_place (see s) a l x b bs (r.writing m e) own) (λ z. absurd (clash (sym even ∙ z)))
+      (λ n. (r.aside n, λ q. idle_take (see s) (r.aside n) a l x))
 
   pub offered_by : (l : Levels) (bs : List Byte) (x : ℕ) (s : S) (was : Bool) → sending bs ≡ true → By s (values bs) → answer_after ops s (offered l bs x ∷ []) was ≡ true
       → By (moved ops s (offered l bs x)) (x ∷ values bs)
   offered_by l [] x s was sends h ack = address_by s x h ack
-  offered_by l (y ∷ []) x s was sends h ack = aim_by s y.value l x y.value [] refl (not-true _ (and_parts _ _ sends).1) ack h
+  offered_by l (y ∷ []) x s was sends h ack = aim_by s y.value l x y.value [] (not-true _ (and_parts _ _ sends).1) ack h
   offered_by l (y ∷ (z ∷ bs)) x s was sends h ack =
       let same = addr_is (z ∷ bs) in
       let a = address (z ∷ bs) in

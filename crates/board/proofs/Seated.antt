@@ -1,7 +1,8 @@
 -- Where an X9520 on the board stands in a write to its register, and what the wires show of that write. Assumes nothing.
-use Rattle.std.proofs.Common.{◌≡◌, ℕ, suc, ◌/◌, ◌^◌, ◌<◌, Bool, true, false, cond, ◌⊎◌, List, [], ◌∷◌, length, eqb, Some, None, Option, refl, sym, ap, ◌∙◌, subst, inl, inr, arith}
+use Rattle.std.proofs.Common.{◌≡◌, ℕ, suc, ◌/◌, ◌^◌, ◌<◌, Bool, true, false, cond, ◌⊎◌, List, [], ◌∷◌, length, eqb, Some, None, Option, refl, sym, ap, ◌∙◌, subst, inl, inr}
 use borrow.Author.Tests.{eqb-true}
 use Rattle.std.proofs.lemmas.Bool.{and_parts, cases_eq}
+use Rattle.std.proofs.lemmas.Option.{none-some, same_Some}
 use Rattle.part.specs.declared.levels.Levels.{Levels}
 use Rattle.part.specs.Ops.{Ops}
 use Rattle.part.specs.Keeps.{Keeps}
@@ -27,17 +28,9 @@ addr_is [] = refl
 addr_is (x ∷ []) = refl
 addr_is (x ∷ (y ∷ bs)) = addr_is (y ∷ bs)
 
-abbrev number_in : Option ℕ → ℕ
-number_in None = 0
-number_in (Some k) = k
-
-abbrev counted : Option ℕ → ℕ
-counted None = 0
-counted (Some k) = 1
-
 same_number : (o : Option ℕ) (k : ℕ) → (o ≡ Some k) ⊎ (o ≡ Some k → ⊥)
-same_number None k = inr (λ e. let z : ◌≡◌ {A = ℕ} 0 1 = ap counted e in omega arith)
-same_number (Some j) k = elim (cases_eq j k) [ inl e ↦ inl (ap Some e) | inr n ↦ inr (λ e. n (ap number_in e)) ]
+same_number None k = inr (none-some k)
+same_number (Some j) k = elim (cases_eq j k) [ inl e ↦ inl (ap Some e) | inr n ↦ inr (λ e. n (same_Some j k e)) ]
 
 abbrev pub EachMove : (Move → Type 0) → List Move → Type 0
 EachMove P [] = Unit {0}

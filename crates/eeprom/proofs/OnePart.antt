@@ -57,7 +57,7 @@ module _ {S : Type 0} {N : ℕ} (c : OnePart S N) where
   pub stays : (s t : S) → c.heard t ≡ c.heard s → Forgets (part_of c) s t
   stays s t e x h = sym (ap (is x) e) ∙ h
 
-  pub silent : (t : S) → c.heard t ≡ None → Unheard (part_of c) t
+  silent : (t : S) → c.heard t ≡ None → Unheard (part_of c) t
   silent t e x = ap (is x) e
 
   pub ended : (s t : S) → c.heard t ≡ None → Forgets (part_of c) s t
@@ -68,10 +68,10 @@ module _ {S : Type 0} {N : ℕ} (c : OnePart S N) where
   refused s t a none w = ((λ k i o. none k i), (λ k i. inr (none k i)), w)
 
   -- a move that drops the writes staged, and leaves the cells else as they were
-  pub dropped : (s t : S) → c.eeprom t ≡ unstages (c.eeprom s) → Unstaged (part_of c) t
+  dropped : (s t : S) → c.eeprom t ≡ unstages (c.eeprom s) → Unstaged (part_of c) t
   dropped s t e = unstaged t (λ i. ap (λ f. staged_at f i) e ∙ unstages_staged (c.eeprom s) i)
 
-  pub drops : (s t : S) → c.eeprom t ≡ unstages (c.eeprom s) → Forgets (part_of c) s t → Calm (part_of c) s t
+  drops : (s t : S) → c.eeprom t ≡ unstages (c.eeprom s) → Forgets (part_of c) s t → Calm (part_of c) s t
   drops s t e h = record {
     fixed = fixed s t;
     lasting = lasting s t (subst (λ f. Rests (c.eeprom s) f) (sym e) (unstages_rests (c.eeprom s)));
@@ -80,7 +80,7 @@ module _ {S : Type 0} {N : ℕ} (c : OnePart S N) where
   }
 
   -- a move that changes no cell, no wiper and not what is heard
-  pub passes : (s t : S) → c.eeprom t ≡ c.eeprom s → ((j : ℕ) → c.tap t j ≡ c.tap s j) → c.heard t ≡ c.heard s → Passes (part_of c) s t
+  passes : (s t : S) → c.eeprom t ≡ c.eeprom s → ((j : ℕ) → c.tap t j ≡ c.tap s j) → c.heard t ≡ c.heard s → Passes (part_of c) s t
   passes s t e j h = record {
     calm = record {
       fixed = fixed s t;

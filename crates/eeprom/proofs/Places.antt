@@ -18,7 +18,7 @@ module _ {A : Type 0} where
   table_at f d n i h = get_or-map-range_with_len f 0 n i i d h (omega arith)
 
   -- a list whose place k is f k
-  pub as_table : (f : ℕ → A) (d : A) (xs : List A) (n : ℕ) → length xs ≡ n → ((k : ℕ) → k < n → get_or xs k d ≡ f k) → xs ≡ table n f
+  as_table : (f : ℕ → A) (d : A) (xs : List A) (n : ℕ) → length xs ≡ n → ((k : ℕ) → k < n → get_or xs k d ≡ f k) → xs ≡ table n f
   unfolding table
   as_table f d xs n long h = fill_by_all f xs n d long h
 

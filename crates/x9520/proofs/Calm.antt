@@ -187,7 +187,7 @@ stored_or false u b n e = inl e
 
 module _ (c : X9520) where
   -- a finish stores all that is under way, and touches nothing else
-  pub finish_byte : (i : ℕ) → byte_at (x9520.finish c 0).eeprom i ≡ unwrap_or (under_at c.eeprom i) (byte_at c.eeprom i)
+  finish_byte : (i : ℕ) → byte_at (x9520.finish c 0).eeprom i ≡ unwrap_or (under_at c.eeprom i) (byte_at c.eeprom i)
   finish_byte i = finishes_byte c.eeprom i
 
   pub finish_under : (i : ℕ) → under_at (x9520.finish c 0).eeprom i ≡ None
@@ -200,7 +200,7 @@ module _ (c : X9520) where
   finish_latches = refl
 
   -- a power cut stores those that its mask marks, and clears the rest
-  pub cut_byte : (p : PowerCut) (i : ℕ) → byte_at (x9520.cut c p).eeprom i ≡ cond (marks p.mask i) (unwrap_or (under_at c.eeprom i) (byte_at c.eeprom i)) (byte_at c.eeprom i)
+  cut_byte : (p : PowerCut) (i : ℕ) → byte_at (x9520.cut c p).eeprom i ≡ cond (marks p.mask i) (unwrap_or (under_at c.eeprom i) (byte_at c.eeprom i)) (byte_at c.eeprom i)
   cut_byte p i = cuts_byte c.eeprom p.mask i
 
   pub cut_under : (p : PowerCut) (i : ℕ) → under_at (x9520.cut c p).eeprom i ≡ None

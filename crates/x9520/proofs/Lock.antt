@@ -17,8 +17,9 @@ use Rattle.x9520.specs.declared.state.Device.{Device}
 use Rattle.x9520.specs.declared.state.Device.TheVariants.{Memory, Register, Dcps}
 use Rattle.x9520.specs.declared.state.Mode.{Mode}
 use Rattle.x9520.specs.declared.state.Mode.TheVariants.{Idle, Aiming, MemoryBytes, DcpByte, RegisterByte, Moved, Latching, Storing, Reading}
+use Rattle.x9520.specs.declared.state.Flags.{Flags}
 use Rattle.x9520.specs.declared.state.X9520.{X9520}
-use Rattle.x9520.specs.Chip.{x9520, hears, source, counter_given}
+use Rattle.x9520.specs.Chip.{x9520, hears, source, counter_given, flags_at}
 use Rattle.x9520.specs.Locks.{locks}
 use Rattle.x9520.specs.Register.{bit, stored_register}
 use Rattle.x9520.specs.State.{chip, factory, fresh, device, heard_in, mode_after}
@@ -328,7 +329,7 @@ from_either : (u w : Option ℕ) (v : ℕ) → option_or u w ≡ Some v → (u �
 from_either None w v h = inr h
 from_either (Some x) w v h = inl h
 
-pub begun : (e : Eeprom 260) (b : Bool) (i v : ℕ) → under_at (stopped b e) i ≡ Some v → (under_at e i ≡ Some v) ⊎ ((b ≡ true) × (staged_at e i ≡ Some v))
+begun : (e : Eeprom 260) (b : Bool) (i v : ℕ) → under_at (stopped b e) i ≡ Some v → (under_at e i ≡ Some v) ⊎ ((b ≡ true) × (staged_at e i ≡ Some v))
 begun e true i v h = ⊎_elim (λ u. inl u) (λ w. inr (refl, w)) (from_either (under_at e i) (staged_at e i) v (sym (begins_under e i) ∙ h))
 begun e false i v h = inl h
 
@@ -343,21 +344,10 @@ counted (Some Memory) n h = omega arith
 counted (Some Register) n h = h
 counted (Some Dcps) n h = h
 
-gave_guarded : (s : X9520) (a : ℕ) → Guarded s → Guarded (x9520.give s a)
-gave_guarded s a h = record {
-  counter_in = counted (source s a) s.counter h.counter_in;
-  named_in = h.named_in;
-  free = h.free;
-  unlocked = h.unlocked;
-  empty = h.empty;
-  idle = h.idle;
-  held = h.held;
-  storing = h.storing;
-}
-
-levelled : (s : X9520) (l : Levels) → Guarded s → Guarded (x9520.level s l)
-levelled s l h = record {
-  counter_in = h.counter_in;
+-- neither the flags nor the counter, inside the memory, is of any weight
+recounted : (s : X9520) (f : Flags) (n : ℕ) → n < 256 → Guarded s → Guarded (chip s.eeprom s.dcps s.latches f n s.named s.mode)
+recounted s f n small h = record {
+  counter_in = small;
   named_in = h.named_in;
   free = h.free;
   unlocked = h.unlocked;
@@ -388,8 +378,8 @@ guarded_step s starting b h = idle_guarded (x9520.start s) h.counter_in h.named_
 guarded_step s (addressing x) b h = addressed (hears s x) s x refl h
 guarded_step s (aiming a l x) b h = aimed_guarded s a l x b h
 guarded_step s (taking a l x) b h = taken_guarded (verdict s a l.wp x) s x (judged s a l.wp x) h
-guarded_step s (giving a) b h = gave_guarded s a h
-guarded_step s (levelling l) b h = levelled s l h
+guarded_step s (giving a) b h = recounted s s.flags _ (counted (source s a) s.counter h.counter_in) h
+guarded_step s (levelling l) b h = recounted s (flags_at s.flags l) s.counter h.counter_in h
 guarded_step s (stopping clean l) b h = idle_guarded (x9520.stop s clean l) h.counter_in h.named_in (stopped_staged s.eeprom (clean && not l.wp)) (stopped_unlocked s (clean && not l.wp) h) refl
 guarded_step s (finishing k) b h = finished (eqb k 0) s h
 guarded_step s (cutting p) b h = idle_guarded (x9520.cut s p) (lit< tt) (lit< tt) (cuts_staged s.eeprom p.mask) (ended (cuts s.eeprom p.mask) (cuts_under s.eeprom p.mask)) refl
