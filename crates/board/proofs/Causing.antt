@@ -190,7 +190,7 @@ module _ {S : Type 0} (ops : Ops S) (keeps : Keeps ops) where
       let l = levels x in
       let up = keeps.levels b.part l in
       let u = open_edge ops keeps b.bus.scl c.bus.scl b.bus.sda c.bus.sda l h.answer h.byte h.opened (ops.level b.part l)
-          (onto_open ops keeps h.answer h.opened b.part _ up.calm.fixed up.calm.fades held) in
+      (onto_open ops keeps h.answer h.opened b.part _ up.calm.fixed up.calm.fades held) in
       rw (a.part, e) u
   held_sample false b x c h e a held =
       let same = a.refused e in

@@ -111,8 +111,20 @@ module _ {S : Type 0} (ops : Ops S) where
       → address bs ≡ a → Went (fetch ops b a) false b.part (told fell l o) answer byte o
   fetched b l answer byte o bs a is g e =
       let say : told fell l o ≡ giving_byte a ∷ [] = rw (is, g, e) refl in
-      rw say (record { tied = record { t = transfer bs []; is = is; given = g; from = e; n = 0; few = omega arith; at = refl; long = refl;
-          shifts = record { out_is = refl; rest_is = refl } }; part = refl })
+      rw say (record {
+        tied = record {
+          t = transfer bs [];
+          is = is;
+          given = g;
+          from = e;
+          n = 0;
+          few = omega arith;
+          at = refl;
+          long = refl;
+          shifts = record { out_is = refl; rest_is = refl };
+        };
+        part = refl;
+      })
 
   kept_first : (b : Board S) (l : Levels) (answer : Bool) (byte a : ℕ) (o : Option Transfer) → (r : Risen (ThenFirst a) answer o)
       → Went (with b (opened (First a)) b.part) false b.part (told fell l o) answer byte o
@@ -124,8 +136,16 @@ module _ {S : Type 0} (ops : Ops S) where
       let sends : sending bytes ≡ true = and_from _ _ (acked_sent r.x r.bs r.sends r.pulled) (ap not even) in
       let quiet = not_giving bytes sends in
       silent _ false b.part _ answer byte o (no_give l o _ r.is (λ z. quiet)) refl
-      (record { t = transfer bytes []; is = r.is; long = refl; few = omega arith; reads = refl; sends = sends; fits = (r.x, alone, f.1);
-          unpulled = unpulled_low (transfer bytes []) (omega arith) quiet })
+      (record {
+        t = transfer bytes [];
+        is = r.is;
+        long = refl;
+        few = omega arith;
+        reads = refl;
+        sends = sends;
+        fits = (r.x, alone, f.1);
+        unpulled = unpulled_low (transfer bytes []) (omega arith) quiet;
+      })
 
   kept_later : (b : Board S) (l : Levels) (answer : Bool) (byte a : ℕ) (o : Option Transfer) → (r : Risen (ThenLater a) answer o)
       → Went (with b (opened (Later a)) b.part) false b.part (told fell l o) answer byte o
@@ -136,8 +156,16 @@ module _ {S : Type 0} (ops : Ops S) where
       let sends : sending bytes ≡ true = and_from _ _ (acked_sent r.x r.bs r.sends r.pulled) (ap not even) in
       let quiet = not_giving bytes sends in
       silent _ false b.part _ answer byte o (no_give l o _ r.is (λ z. quiet)) refl
-      (record { t = transfer bytes []; is = r.is; long = refl; few = omega arith; reads = refl; sends = sends; fits = later_fits a r.x r.bs f.0 f.1;
-          unpulled = unpulled_low (transfer bytes []) (omega arith) quiet })
+      (record {
+        t = transfer bytes [];
+        is = r.is;
+        long = refl;
+        few = omega arith;
+        reads = refl;
+        sends = sends;
+        fits = later_fits a r.x r.bs f.0 f.1;
+        unpulled = unpulled_low (transfer bytes []) (omega arith) quiet;
+      })
 
   went_on : (n : Next) (b : Board S) (l : Levels) (answer : Bool) (byte : ℕ) (o : Option Transfer) → (r : Risen n answer o) → Went (go_on ops n b) false b.part (told fell l o) answer byte o
   went_on (ThenFirst a) b l answer byte o r = kept_first b l answer byte a o r
@@ -154,8 +182,17 @@ module _ {S : Type 0} (ops : Ops S) where
       let at : rises ≡ suc g.n = g.at in
       let silence = no_give l o g.t g.is (λ z. absurd (omega (arith, g.long, z))) in
       silent _ false b.part _ answer byte o silence refl
-          (record { t = g.t; is = g.is; given = g.given; from = g.from; n = suc g.n; few = omega arith; at = g.at; long = g.long;
-              shifts = next_shift g.n byte left out (omega arith) g.shifts })
+      (record {
+        t = g.t;
+        is = g.is;
+        given = g.given;
+        from = g.from;
+        n = suc g.n;
+        few = omega arith;
+        at = g.at;
+        long = g.long;
+        shifts = next_shift g.n byte left out (omega arith) g.shifts;
+      })
   shifted false b l answer byte a rises left out o e g =
       let le = ltb-false rises 8 e in
       let few = g.few in
@@ -283,7 +320,7 @@ module _ {S : Type 0} (ops : Ops S) where
       rw say (aimed_went (ops.aims b.part a l x) b a l x answer byte p (with_eighth w t) refl then (omega (arith, long)) sends (ap some_byte fits.1) (ap address fits.1 ∙ fits.2))
   whole_went (Later a) b w l x answer byte o p t is then long sends fits v =
       let say : told (rose w) l o ≡ taking a l x ∷ [] = offers l w o t x is long sends v ∙ ap (λ bs. offered l bs x ∷ []) fits.1.1.1
-          ∙ ap (λ z. taking z l x ∷ []) (ap address (sym fits.1.1.1) ∙ fits.1.1.2) in
+      ∙ ap (λ z. taking z l x ∷ []) (ap address (sym fits.1.1.1) ∙ fits.1.1.2) in
       rw say (taken_went (ops.takes b.part a l x) b a l x answer byte p (with_eighth w t) refl then (omega (arith, long)) sends (ap some_byte fits.1.1.1) fits.1.1.2)
 
   bit_went : (q : Bool) (kind : Kind) (b : Board S) (w : Bool) (l : Levels) (bits so-far : ℕ) (pulled answer : Bool) (byte : ℕ) (o : Option Transfer) → ltb bits 7 ≡ q
@@ -293,8 +330,16 @@ module _ {S : Type 0} (ops : Ops S) where
       let lt = ltb-true bits 7 e in
       let small = value_small c.t.bits (omega (arith, c.long, c.few)) in
       silent _ true b.part _ answer byte _ (no_offer l w o c.t c.is (λ z. absurd (omega (arith, c.long, z)))) refl
-      (record { t = with_eighth w c.t; is = one_bit w pulled o c.t c.is (omega (arith, c.long)); long = omega (arith, c.long); few = omega arith;
-          reads = omega (arith, c.reads, small); sends = c.sends; fits = c.fits; unpulled = unpulled_high c.t.bytes w c.t.bits (not_giving c.t.bytes c.sends) })
+      (record {
+        t = with_eighth w c.t;
+        is = one_bit w pulled o c.t c.is (omega (arith, c.long));
+        long = omega (arith, c.long);
+        few = omega arith;
+        reads = omega (arith, c.reads, small);
+        sends = c.sends;
+        fits = c.fits;
+        unpulled = unpulled_high c.t.bytes w c.t.bits (not_giving c.t.bytes c.sends);
+      })
   bit_went false kind b w l bits so-far pulled answer byte o e c =
       let le = ltb-false bits 7 e in
       let few = c.few in
@@ -327,8 +372,17 @@ module _ {S : Type 0} (ops : Ops S) where
       let few = g.few in
       let lt : rises < 8 = omega arith in
       silent _ true b.part _ answer byte _ (no_offer l w o g.t g.is (λ z. not_sending g.t.bytes g.given)) refl
-      (rw (lt-ltb rises 8 lt) (record { t = with_eighth w g.t; is = one_bit w pulled o g.t g.is (omega (arith, g.long)); given = g.given; from = g.from; n = g.n;
-          few = g.few; at = omega arith; long = omega (arith, g.long); shifts = g.shifts }))
+      (rw (lt-ltb rises 8 lt) (record {
+        t = with_eighth w g.t;
+        is = one_bit w pulled o g.t g.is (omega (arith, g.long));
+        given = g.given;
+        from = g.from;
+        n = g.n;
+        few = g.few;
+        at = omega arith;
+        long = omega (arith, g.long);
+        shifts = g.shifts;
+      }))
 
   pub rise_went : (ph : Phase) (b : Board S) (w : Bool) (l : Levels) (answer : Bool) (byte : ℕ) (o : Option Transfer) → b.bus.phase ≡ ph → Tied ph false answer byte o
       → Went (rise_at ops ph b w l) true b.part (told (rose w) l o) answer byte (rising w (pulls_by false o answer byte) o)

@@ -88,7 +88,7 @@ module _ {S : Type 0} (ops : Ops S) (keeps : Keeps ops) (number : S → ℕ) (se
   place_sample true b x c h e a p =
       let l = levels x in
       let u = open_edge ops keeps number see seat b.bus.scl c.bus.scl b.bus.sda c.bus.sda l h.answer h.byte h.opened (ops.level b.part l)
-          (open_kept ops keeps number see seat h.answer h.opened b.part _ (level_keeping ops keeps number see seat b.part l) p) in
+      (open_kept ops keeps number see seat h.answer h.opened b.part _ (level_keeping ops keeps number see seat b.part l) p) in
       rw (a.part, e) u
   place_sample false b x c h e a p =
       subst (λ d. let n = onward ops b (Sample x) d h in Open ops keeps number see seat n.answer n.opened d.part) (sym (a.refused e)) (rw e (kept b.bus.scl b.bus.sda p))

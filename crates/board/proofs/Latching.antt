@@ -99,8 +99,8 @@ module _ {S : Type 0} (ops : Ops S) (keeps : Keeps ops) (number : S → ℕ) (se
   zero_clears n l e is w = elim (is_holding (C n).mode 0 (holds n 0 w)) [
     | inl m ↦ ap (λ c. c.latches) is
         ∙ zero_by (C n).mode (clean_at n) l.wp (stored_register (C n)) (C n).latches m (clean_by n 0 w)
-            (subst (λ z. wp_forbids false z (stored_register (C n)) ≡ false) e
-            (subst (λ z. wp_forbids z (wp_of (calls n)) (stored_register (C n)) ≡ false) (no_stage n 0 m) (passed n 0 w)))
+        (subst (λ z. wp_forbids false z (stored_register (C n)) ≡ false) e
+        (subst (λ z. wp_forbids z (wp_of (calls n)) (stored_register (C n)) ≡ false) (no_stage n 0 m) (passed n 0 w)))
     | inr m ↦ absurd (clash ((guard n).storing 0 m).0)
   ]
 
@@ -194,8 +194,12 @@ module _ {S : Type 0} (ops : Ops S) (keeps : Keeps ops) (number : S → ℕ) (se
           | inr (inr o) ↦ elim (latched_wel (C n).latches o.0 (ap (λ z. z.wel) (sym o.1.3) ∙ f)) [
             | inl was ↦ enabled_on n nc (not_zero e) (h.wel was)
             | inr two ↦ (let w = subst (W n) two (latch_writes o.0 o.1.0 o.1.1 o.1.2) in
-                record { first = n; later = lt-suc_self n; enables = w;
-                    since = λ j lo hi. subst (λ i. (IsCut (calls i) → ⊥) × (W i 0 → ⊥)) (let z : n ≡ j = omega arith in z) (nc, not_zero e) })
+                record {
+                  first = n;
+                  later = lt-suc_self n;
+                  enables = w;
+                  since = λ j lo hi. subst (λ i. (IsCut (calls i) → ⊥) × (W i 0 → ⊥)) (let z : n ≡ j = omega arith in z) (nc, not_zero e);
+                })
           ]
         ]
 

@@ -50,7 +50,7 @@ module _ {S : Type 0} (ops : Ops S) (keeps : Keeps ops) (number : S → ℕ) (se
   module _ (lock : ℕ → Bool) (Same : X9520 → Type 0) (p q : ℕ)
       (same_calm : (c d : X9520) → CalmMove c d → lock (stored_register c) ≡ true → Same c → Same d)
       (same_stop : (c : X9520) (clean : Bool) (l : Rattle.part.specs.declared.levels.Levels.Levels) → Guarded c → lock (stored_register c) ≡ true → Same c
-          → Same (x9520.stop (x9520.level c l) clean l))
+      → Same (x9520.stop (x9520.level c l) clean l))
       (same_finish : (c : X9520) → Same c → Same (x9520.finish c 0))
       (same_cut : (n : ℕ) → p ≤ n → n < q → IsCut (calls n) → (c : X9520) (w : PowerCut) → Same c → Same (x9520.cut c w)) where
     -- it is the same and still locked, and a register byte under way locks it too
@@ -151,11 +151,17 @@ module _ {S : Type 0} (ops : Ops S) (keeps : Keeps ops) (number : S → ℕ) (se
     shut_event n lo hi (calm m f c) r = inr (record { same = same_calm (C n) _ m r.shut r.same; shut = ap lock (calm_register (C n) _ m) ∙ r.shut; coming = λ v u. r.coming v (sym (m.under 259) ∙ u) })
     shut_event n lo hi (stops l low is st c) r = shut_stop n l lo low is st c r
     shut_event n lo hi (finishes is f c) r =
-        inr (subst Shut (sym is) (record { same = same_finish (C n) r.same; shut = stored_lock _ _ _ (finish_either (C n) 259) r.shut r.coming;
-            coming = λ v u. absurd (none-some v (sym (finish_under (C n) 259) ∙ u)) }))
+        inr (subst Shut (sym is) (record {
+          same = same_finish (C n) r.same;
+          shut = stored_lock _ _ _ (finish_either (C n) 259) r.shut r.coming;
+          coming = λ v u. absurd (none-some v (sym (finish_under (C n) 259) ∙ u));
+        }))
     shut_event n lo hi (cuts w is f c) r =
-        inr (subst Shut (sym is) (record { same = same_cut n lo hi c (C n) w r.same; shut = stored_lock _ _ _ (cut_either (C n) w 259) r.shut r.coming;
-            coming = λ v u. absurd (none-some v (sym (cut_under (C n) w 259) ∙ u)) }))
+        inr (subst Shut (sym is) (record {
+          same = same_cut n lo hi c (C n) w r.same;
+          shut = stored_lock _ _ _ (cut_either (C n) w 259) r.shut r.coming;
+          coming = λ v u. absurd (none-some v (sym (cut_under (C n) w 259) ∙ u));
+        }))
 
     one_on : (n : ℕ) → p ≤ n → n < q → Op n ⊎ Shut (C n) → Op (suc n) ⊎ Shut (C (suc n))
     one_on n lo hi (inl o) = inl (later n o)

@@ -200,7 +200,7 @@ module _ {S : Type 0} (ops : Ops S) (keeps : Keeps ops) (number : S → ℕ) (se
         by = λ a. (
             let c = and_parts (all_acked bs) _ a.0 in
             let answered : sending bs ≡ true → answer ≡ true = λ sends. sym (is ∙ ap (λ z. pulls_in z answer byte) (slot_low_sent (transfer bs bits) long sends))
-                ∙ ap (λ r. acked_by r x) (sym (not-true _ (and_parts (all_acked bs) _ sends).1)) ∙ c.1 in
+            ∙ ap (λ r. acked_by r x) (sym (not-true _ (and_parts (all_acked bs) _ sends).1)) ∙ c.1 in
             subst (By s) (so_far_at true bs bits (eq-eqb _ _ long)) (p.by (c.0, λ z sends. answered sends)));
       }
 
@@ -214,7 +214,7 @@ module _ {S : Type 0} (ops : Ops S) (keeps : Keeps ops) (number : S → ℕ) (se
       let c = and_parts (eqb (length bits) 7) _ e in
       let long = eqb-true _ 7 c.0 in
       opened_as (answer_after ops s (offered l bs (value (w ∷ bits)) ∷ []) answer) _ (transfer bs (w ∷ bits)) (moved ops s (offered l bs (value (w ∷ bits))))
-          (rw (lt-ltb (length bits) 8 (omega (arith, long))) refl) (eighth bs bits w l answer s long c.1 p)
+      (rw (lt-ltb (length bits) 8 (omega (arith, long))) refl) (eighth bs bits w l answer s long c.1 p)
   rose_by false true bs bits w pulled answer byte l s e f is p =
       opened_as answer _ (transfer bs (w ∷ bits)) s (rw f refl) (more_by _ bs bits w answer s refl (ltb-true _ 8 f) e p)
   rose_by false false bs bits w pulled answer byte l s e f is p =

@@ -191,8 +191,8 @@ module _ {S : Type 0} (ops : Ops S) (keeps : Keeps ops) where
     address = λ calls n x plain seven is bit r. (
         let ph = phase_at ops c e calls n plain (omega (arith, seven)) in
         ap (λ z. (step ops (state ops c calls n) z).part) is
-            ∙ sample_eighth ops (ltb x 32) (state ops c calls n) x (bits ops c calls n) bit ph seven
-                (ap (λ z. edge_of ops (state ops c calls n) z (step ops (state ops c calls n) z)) (sym is) ∙ r));
+        ∙ sample_eighth ops (ltb x 32) (state ops c calls n) x (bits ops c calls n) bit ph seven
+        (ap (λ z. edge_of ops (state ops c calls n) z (step ops (state ops c calls n) z)) (sym is) ∙ r));
   }
 
   awaits : (b : Board S) → b.bus.scl ≡ true → b.bus.sda ≡ true → (x : ℕ) → ltb x 32 ≡ true → odd x ≡ true → odd (x / 2) ≡ false → Awaits ops (step ops b (Sample x))

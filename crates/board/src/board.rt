@@ -152,9 +152,7 @@ impl<P: Part> Board<P> {
                     self.whole(kind, levels, byte);
                 }
             }
-            Phase::AckPulled { next } => {
-                self.bus.phase = Phase::AckRisen { next };
-            }
+            Phase::AckPulled { next } => self.bus.phase = Phase::AckRisen { next },
             Phase::Giving {
                 address,
                 rises,
@@ -177,9 +175,7 @@ impl<P: Part> Board<P> {
                 };
             }
             // No rise comes here: a fall lies before it.
-            _ => {
-                self.bus.phase = Phase::Deaf;
-            }
+            _ => self.bus.phase = Phase::Deaf,
         }
     }
 

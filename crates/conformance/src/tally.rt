@@ -65,13 +65,7 @@ impl Tally {
     }
 
     // Prints the line of a case.
-    fn tell(
-        &mut self,
-        rt: &impl Print,
-        name: &str,
-        expected: &str,
-        came: &str,
-    ) -> io::Result<()> {
+    fn tell(&mut self, rt: &impl Print, name: &str, expected: &str, came: &str) -> io::Result<()> {
         let agrees = came == expected;
         let word = if agrees { "agrees" } else { "differs" };
         self.all = self.all.saturating_add(1);

@@ -131,7 +131,7 @@ module _ {S : Type 0} {ops : Ops S} (b c : Board S) (answer : Told (List ℕ)) (
 
   wiper_stores : (sits : Sits ops x9520) (j : ℕ) (store : Bool) (v : ℕ) → j < 3 → Sound (sits.see b.part) → AllBytes (dcp_byte j store ∷ (v ∷ [])) → Owned sits b.part 87 →
       run ops (writing l 87 (dcp_byte j store ∷ (v ∷ []))) b ≡ (c, answer) → WiperStores ops b c answer (sits.number b.part) (sits.see b.part)
-          (sits.see (finished ops c (sits.number b.part)).part) j store v
+      (sits.see (finished ops c (sits.number b.part)).part) j store v
   wiper_stores sits j store v in_range sound small mine ran =
       let before = now sits b idle_b in
       let chip : X9520 = sits.see b.part in

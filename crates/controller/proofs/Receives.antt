@@ -44,7 +44,7 @@ module _ {S : Type 0} (ops : Ops S) (l : Levels) where
   unfolding reading
   reads_all a n aim got b c d e p q r =
       onward ops (end_refused l (addressing l a aim)) (λ t. unless_refused t (receive_all l n [] then close l)) b c (ok []) p
-          (onward ops (receive_all l n []) (close l) c d (ok got) q (closes ops l (ok got) d e r))
+      (onward ops (receive_all l n []) (close l) c d (ok got) q (closes ops l (ok got) d e r))
 
   pub reads_refused : (a n m p : ℕ) (aim : List ℕ) (b c : Board S) → run ops (end_refused l (addressing l a aim)) b ≡ (c, refused m p) → run ops (reading l a aim n) b ≡ (c, refused m p)
   unfolding reading

@@ -93,7 +93,7 @@ module _ {S : Type 0} (ops : Ops S) (l : Levels) where
   reached start k f zero j h m = let none : ⊥ = omega (arith, h, m) in absurd none
   reached start k f (suc n) j h m =
       onward ops (clock-master l) (λ high. cond high (after_clocks (j + 1)) (clocking l n (j + 1 + 1))) (clocks ops l j start) (clocks ops l (suc j) start) _
-          (clock_run (clocks ops l j start)) (by_test (ltb (suc j) k) refl (reached start k f n (suc j)))
+      (clock_run (clocks ops l j start)) (by_test (ltb (suc j) k) refl (reached start k f n (suc j)))
     where
       by_test : (t : Bool) → ltb (suc j) k ≡ t
           → (suc j < k → k ≤ suc j + n → run ops (clocking l n (suc j + 1)) (clocks ops l (suc j) start) ≡ run ops (after_clocks k) (clocks ops l k start))

@@ -116,7 +116,7 @@ module _ {S : Type 0} (ops : Ops S) (l : Levels) where
   reads_aimed a [] b c d t h e f g = absurd (h refl)
   reads_aimed a (x ∷ xs) b c d t h e f g =
       onward ops (sending l a (x ∷ xs) then (λ t. unless_refused t (open_with l (1 + length (x ∷ xs)) (read_byte a)))) (stop_refused l) b d t
-          (onward ops (sending l a (x ∷ xs)) (λ t. unless_refused t (open_with l (1 + length (x ∷ xs)) (read_byte a))) b c (ok []) e f) g
+      (onward ops (sending l a (x ∷ xs)) (λ t. unless_refused t (open_with l (1 + length (x ∷ xs)) (read_byte a))) b c (ok []) e f) g
 
   -- an aim byte without an ACK
   pub aim_refused : (a n p : ℕ) (xs : List ℕ) (b c d : Board S) → (length xs ≡ 0 → ⊥) → run ops (sending l a xs) b ≡ (c, refused n p) → (run ops (stop l) c).0 ≡ d
@@ -125,5 +125,5 @@ module _ {S : Type 0} (ops : Ops S) (l : Levels) where
   aim_refused a n p [] b c d h e f = absurd (h refl)
   aim_refused a n p (x ∷ xs) b c d h e f =
       onward ops (sending l a (x ∷ xs) then (λ t. unless_refused t (open_with l (1 + length (x ∷ xs)) (read_byte a)))) (stop_refused l) b c (refused n p)
-          (onward ops (sending l a (x ∷ xs)) (λ t. unless_refused t (open_with l (1 + length (x ∷ xs)) (read_byte a))) b c (refused n p) e refl)
-          (closes (refused n p) c d f)
+      (onward ops (sending l a (x ∷ xs)) (λ t. unless_refused t (open_with l (1 + length (x ∷ xs)) (read_byte a))) b c (refused n p) e refl)
+      (closes (refused n p) c d f)

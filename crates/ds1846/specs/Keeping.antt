@@ -68,7 +68,7 @@ unacked s a l x h = unstaged as_part (ds1846.take s a l x) (λ i. taken_none (ta
 
 taken_staged : (ack : Bool) (e : Eeprom 256) (n x k i : ℕ) (o : Option ℕ) → o ≡ Some 0 → ack ≡ true
     → (of_part k (staged_at (cells_taken ack e n x) i) None ≡ of_part k (staged_at e i) None)
-        ⊎ ((of_part k (staged_at (cells_taken ack e n x) i) None ≡ None) ⊎ ((i ≡ n) × (o ≡ Some k) × (of_part k (staged_at (cells_taken ack e n x) i) None ≡ Some x)))
+    ⊎ ((of_part k (staged_at (cells_taken ack e n x) i) None ≡ None) ⊎ ((i ≡ n) × (o ≡ Some k) × (of_part k (staged_at (cells_taken ack e n x) i) None ≡ Some x)))
 taken_staged true e n x k i o h a = staged_by e n x k i o h
 taken_staged false e n x k i o h a = absurd (clash a)
 

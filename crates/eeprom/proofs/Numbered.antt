@@ -94,7 +94,7 @@ module _ {N : ℕ} (e : Eeprom N) where
 
   pub stopped_under : (clean wp : Bool) (k i : ℕ) → (of_part k (under_at (stopped (clean && not wp) e) i) None ≡ of_part k (under_at e i) None)
       ⊎ ((of_part k (under_at e i) None ≡ None) × (clean ≡ true) × (wp ≡ false)
-          × (of_part k (under_at (stopped (clean && not wp) e) i) None ≡ of_part k (staged_at e i) None))
+      × (of_part k (under_at (stopped (clean && not wp) e) i) None ≡ of_part k (staged_at e i) None))
   stopped_under true true k i = inl refl
   stopped_under true false k i = begun (eqb k 0) (under_at e i) (staged_at e i) _ (begins_under e i)
   stopped_under false wp k i = inl refl

@@ -31,7 +31,7 @@ module _ {A : Type 0} (items : List A) (n : ℕ) (xs : List A) where
   filled_more x h =
       let same = length-filled items n xs (omega arith) in
       let one : set (filled items n xs) (n + length xs) x ≡ filled (filled items n xs) (n + length xs) (x ∷ []) =
-          sets-eq (x ∷ []) (filled items n xs) (n + length xs) (omega arith) ∙ append_assoc (take (n + length xs) (filled items n xs)) (x ∷ []) _ in
+      sets-eq (x ∷ []) (filled items n xs) (n + length xs) (omega arith) ∙ append_assoc (take (n + length xs) (filled items n xs)) (x ∷ []) _ in
       one ∙ filled-filled (x ∷ []) (omega arith)
 
 -- the last of the items written, in the place where it stands

@@ -56,8 +56,8 @@ target stores n m = 259
 
 pub taken_staged : (v : Verdict) (e : Eeprom 260) (n m x k i : ℕ) (o : Option ℕ) → o ≡ Some 0 → acks v ≡ true
     → (of_part k (staged_at (cells_taken v e n m x) i) None ≡ of_part k (staged_at e i) None)
-        ⊎ ((of_part k (staged_at (cells_taken v e n m x) i) None ≡ None)
-            ⊎ ((i ≡ target v n m) × (o ≡ Some k) × (of_part k (staged_at (cells_taken v e n m x) i) None ≡ Some x)))
+    ⊎ ((of_part k (staged_at (cells_taken v e n m x) i) None ≡ None)
+    ⊎ ((i ≡ target v n m) × (o ≡ Some k) × (of_part k (staged_at (cells_taken v e n m x) i) None ≡ Some x)))
 taken_staged refused e n m x k i o h a = absurd (clash a)
 taken_staged barred e n m x k i o h a = absurd (clash a)
 taken_staged pages e n m x k i o h a = staged_by e n x k i o h

@@ -16,13 +16,13 @@ returns-in_err-reading g c =
     let room : c.args.job.now.count ≤ room_of c.args.row.now = omega (arith, c.if-room-from.false, c.from.ensures, c.room.ensures, c.count.ensures.value) in
     let one : 1 ≤ c.args.job.now.count = omega (arith, c.count.ensures.value, c.count.ensures.limit) in
     let opened = same_address g.P.Part.ops c.args.lines.now _ c.args.job.now.address _ c.args.job.now.aim.now c.args.board.now c.address.ensures.value c.aim.ensures.value
-        c.in_err-reading.ensures.run in
+    c.in_err-reading.ensures.run in
     let job : Master (Told (List ℕ)) = with_room c.args.job.now.count (room_of c.args.row.now) (reading c.args.lines.now c.args.job.now.address c.args.job.now.aim.now c.args.job.now.count) in
     let ran = roomy_run g.P.Part.ops c.args.job.now.count (room_of c.args.row.now) _ _ room
-        (reads_refused g.P.Part.ops c.args.lines.now c.args.job.now.address c.args.job.now.count _ _ c.args.job.now.aim.now c.args.board.now _ opened) in
+    (reads_refused g.P.Part.ops c.args.lines.now c.args.job.now.address c.args.job.now.count _ _ c.args.job.now.aim.now c.args.board.now _ opened) in
     let exit = err_from_is_err_and c.from_residual.result c.from_residual.ensures.1 in
     let done : Into (run g.P.Part.ops job c.args.board.now) _ c.args.row.now c.args.row.now (told (λ x. x) c.from_residual.result) = rw (exit.1, exit.2)
-        (into _ _ (refused _ _) c.args.row.now c.args.row.now ran refl) in
+    (into _ _ (refused _ _) c.args.row.now c.args.row.now ran refl) in
     record {
       run = done;
       work = read_works g.P.Part.ops g.met.P.Part.keeps c.args.lines.now c.args.job.now.address (room_of c.args.row.now) c.args.job.now.aim.now c.args.job.now.count
@@ -39,13 +39,13 @@ returns g c =
     let room : c.args.job.now.count ≤ room_of c.args.row.now = omega (arith, c.if-room-from.false, c.from.ensures, c.room.ensures, c.count.ensures.value) in
     let one : 1 ≤ c.args.job.now.count = omega (arith, c.count.ensures.value, c.count.ensures.limit) in
     let opened = same_address g.P.Part.ops c.args.lines.now _ c.args.job.now.address _ c.args.job.now.aim.now c.args.board.now c.address.ensures.value c.aim.ensures.value
-        c.in_ok-reading.ensures.run in
+    c.in_ok-reading.ensures.run in
     let got : List ℕ = c.receive_all-reading.ensures.run.0 in
     let count = ap (λ n. run g.P.Part.ops (receive_all c.args.lines.now n []) c.open_read.new.board) (sym c.count-2.ensures.value) in
     let job : Master (Told (List ℕ)) = with_room c.args.job.now.count (room_of c.args.row.now) (reading c.args.lines.now c.args.job.now.address c.args.job.now.aim.now c.args.job.now.count) in
     let ran = roomy_run g.P.Part.ops c.args.job.now.count (room_of c.args.row.now) _ _ room
-        (reads_all g.P.Part.ops c.args.lines.now c.args.job.now.address c.args.job.now.count c.args.job.now.aim.now got c.args.board.now _ _ _ opened
-            (count ∙ c.receive_all-reading.ensures.run.3) c.stop.ensures.run) in
+    (reads_all g.P.Part.ops c.args.lines.now c.args.job.now.address c.args.job.now.count c.args.job.now.aim.now got c.args.board.now _ _ _ opened
+    (count ∙ c.receive_all-reading.ensures.run.3) c.stop.ensures.run) in
     let done = into _ _ (ok got) c.args.row.now c.receive_all-reading.new.row ran c.receive_all-reading.ensures.run.2 in
     record {
       run = done;

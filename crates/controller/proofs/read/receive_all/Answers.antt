@@ -29,7 +29,11 @@ loop-n-preserved g c =
 pub returns : goal.returns
 returns g c =
     record {
-      run = (c.loop-n.invariant.0, omega (arith, c.loop-n.invariant.1, c.loop-n-test.false, c.loop-n.auto.n-end), c.loop-n.invariant.2,
-          received_all g.P.Part.ops c.args.levels.now c.loop-n.n c.args.count c.loop-n.invariant.0 c.loop-n.board c.loop-n-test.false c.loop-n.invariant.4);
+      run = (
+        c.loop-n.invariant.0,
+        omega (arith, c.loop-n.invariant.1, c.loop-n-test.false, c.loop-n.auto.n-end),
+        c.loop-n.invariant.2,
+        received_all g.P.Part.ops c.args.levels.now c.loop-n.n c.args.count c.loop-n.invariant.0 c.loop-n.board c.loop-n-test.false c.loop-n.invariant.4,
+      );
       lender = c.loop-n.invariant.3;
     }

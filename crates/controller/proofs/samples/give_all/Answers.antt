@@ -32,8 +32,12 @@ loop-sample-preserved g c =
 pub returns : goal.returns
 returns g c =
     record {
-      run = (c.loop-sample.invariant.0, omega (arith, c.loop-sample.invariant.1, c.loop-sample-test.false, c.loop-sample.auto.sample-index-end),
-          c.loop-sample.invariant.2, given_all g.P.Part.ops c.args.samples.now c.loop-sample.sample-index c.loop-sample.invariant.0 c.loop-sample.board
-          c.loop-sample-test.false c.loop-sample.invariant.4);
+      run = (
+        c.loop-sample.invariant.0,
+        omega (arith, c.loop-sample.invariant.1, c.loop-sample-test.false, c.loop-sample.auto.sample-index-end),
+        c.loop-sample.invariant.2,
+        given_all g.P.Part.ops c.args.samples.now c.loop-sample.sample-index c.loop-sample.invariant.0 c.loop-sample.board
+            c.loop-sample-test.false c.loop-sample.invariant.4,
+      );
       lender = c.loop-sample.invariant.3;
     }

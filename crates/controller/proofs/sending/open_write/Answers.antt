@@ -18,6 +18,6 @@ returns g c =
     record {
       run = sends g.P.Part.ops c.args.levels.now c.args.address c.args.bytes.now c.args.board.now _ _ _ _ (sym c.is_err.ensures.value ∙ c.if-is_err.false)
           (first ∙ c.write-result.ensures.run) (ap (λ n. run g.P.Part.ops (send_all c.args.levels.now n c.args.bytes.now) c.write-result.new.board) (sym one)
-              ∙ c.send_all.ensures.run);
+          ∙ c.send_all.ensures.run);
       count = subst (λ n. Sent (n + length c.args.bytes.now) c.send_all.result.0.sent c.send_all.result.1) one c.send_all.ensures.count;
     }

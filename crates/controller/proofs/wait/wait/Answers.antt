@@ -12,9 +12,9 @@ returns-else-is_ok-clause-sampled g c = job_sampled g.P.Part.ops (waiting (lower
 pub returns-then-is_ok-clause-work : goal.returns-then-is_ok-clause-work
 returns-then-is_ok-clause-work g c =
     wait_works g.P.Part.ops g.met.P.Part.keeps (lowered c.args.lines.now) c.address.result c.args.job.now.address c.polls.result c.args.job.now.polls c.args.board.now _ _
-        c.address.ensures.value c.polls.ensures.value c.poll-answer.ensures.run
+    c.address.ensures.value c.polls.ensures.value c.poll-answer.ensures.run
 
 pub returns-else-is_ok-clause-work : goal.returns-else-is_ok-clause-work
 returns-else-is_ok-clause-work g c =
     wait_works g.P.Part.ops g.met.P.Part.keeps (lowered c.args.lines.now) c.address.result c.args.job.now.address c.polls.result c.args.job.now.polls c.args.board.now _ _
-        c.address.ensures.value c.polls.ensures.value c.poll-answer.ensures.run
+    c.address.ensures.value c.polls.ensures.value c.poll-answer.ensures.run

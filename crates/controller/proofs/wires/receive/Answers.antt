@@ -8,4 +8,4 @@ loop-n-preserved g c =
 pub returns : goal.returns
 returns g c =
     received g.P.Part.ops c.args.levels.now c.args.more c.args.board.now c.loop-n.board _ c.loop-n.byte _
-        (read_all g.P.Part.ops c.args.levels.now c.loop-n.byte c.loop-n._n c.loop-n.board c.loop-n-test.false c.loop-n.invariant.1) c.send_bit.ensures
+    (read_all g.P.Part.ops c.args.levels.now c.loop-n.byte c.loop-n._n c.loop-n.board c.loop-n-test.false c.loop-n.invariant.1) c.send_bit.ensures

@@ -8,4 +8,4 @@ loop-n-preserved g c =
 pub returns : goal.returns
 returns g c =
     sent g.P.Part.ops c.args.levels.now c.args.byte c.args.board.now c.loop-n.board _ _
-        (sent_all g.P.Part.ops c.args.levels.now c.args.byte c.loop-n.n c.loop-n.board c.loop-n-test.false c.loop-n.invariant) c.read_bit.ensures
+    (sent_all g.P.Part.ops c.args.levels.now c.args.byte c.loop-n.n c.loop-n.board c.loop-n-test.false c.loop-n.invariant) c.read_bit.ensures

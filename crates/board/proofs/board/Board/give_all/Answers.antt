@@ -29,7 +29,10 @@ pub returns : goal.returns
 returns g c =
     record {
       after = board_all g.P.Part.ops c.args.calls.now c.loop-call.call-index c.loop-call.self c.loop-call-test.false c.loop-call.invariant.5;
-      answers = (c.loop-call.invariant.0, c.loop-call.invariant.2,
-          answers_all g.P.Part.ops c.args.calls.now c.loop-call.call-index c.loop-call.invariant.0 c.loop-call.self c.loop-call-test.false c.loop-call.invariant.4);
+      answers = (
+        c.loop-call.invariant.0,
+        c.loop-call.invariant.2,
+        answers_all g.P.Part.ops c.args.calls.now c.loop-call.call-index c.loop-call.invariant.0 c.loop-call.self c.loop-call-test.false c.loop-call.invariant.4,
+      );
       lender = c.loop-call.invariant.3;
     }
