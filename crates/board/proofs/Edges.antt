@@ -215,9 +215,9 @@ module _ {S : Type 0} (ops : Ops S) where
   fall_went Deaf b l answer byte o e h =
       let d = dead_fall l answer byte o h.t h.is h.dead in
       stays Deaf b false _ answer byte o e d.0 (record { t = h.t; is = h.is; dead = d.1 })
-  fall_went (Taking kind bits so-far) b l answer byte o e h =
+  fall_went (Taking kind bits so_far) b l answer byte o e h =
       let quiet = not_giving h.t.bytes h.sends in
-      stays (Taking kind bits so-far) b false _ answer byte o e (no_give l o h.t h.is (λ z. quiet))
+      stays (Taking kind bits so_far) b false _ answer byte o e (no_give l o h.t h.is (λ z. quiet))
       (record { t = h.t; is = h.is; long = h.long; few = h.few; reads = h.reads; sends = h.sends; fits = h.fits; unpulled = unpulled_low h.t (omega (arith, h.long, h.few)) quiet })
   fall_went (AckDue n) b l answer byte o e h = silent _ false b.part _ answer byte o (no_give l o h.1.t h.1.is (λ z. absurd (omega (arith, h.1.long, z)))) refl (refl, h.1)
   fall_went (AckPulled n) b l answer byte o e h = absurd (clash (sym h.0))
@@ -278,8 +278,8 @@ module _ {S : Type 0} (ops : Ops S) where
       (no_offer l w o t is (λ z. absurd (omega (arith, d.0, z))), lost true answer byte _ x t.bytes (the_ninth w false o t is d.0) unacked (λ z. d.2))
 
   -- a whole byte
-  due_after : (odd-address : Bool) (answer : Bool) (o : Option Transfer) (t : Transfer) (x : ℕ) → o ≡ Some t → length t.bits ≡ 8 → sending t.bytes ≡ true → answer ≡ true
-      → t.bytes ≡ [] → value t.bits ≡ x → odd x ≡ odd-address → Due (cond odd-address (ThenGiven x) (ThenFirst x)) answer o
+  due_after : (is_odd : Bool) (answer : Bool) (o : Option Transfer) (t : Transfer) (x : ℕ) → o ≡ Some t → length t.bits ≡ 8 → sending t.bytes ≡ true → answer ≡ true
+      → t.bytes ≡ [] → value t.bits ≡ x → odd x ≡ is_odd → Due (cond is_odd (ThenGiven x) (ThenFirst x)) answer o
   due_after true answer o t x is long sends ok none v e = record { t = t; is = is; long = long; sends = sends; answered = ok; follows = (none, v, e) }
   due_after false answer o t x is long sends ok none v e = record { t = t; is = is; long = long; sends = sends; answered = ok; follows = (none, v, e) }
 
@@ -323,10 +323,10 @@ module _ {S : Type 0} (ops : Ops S) where
       ∙ ap (λ z. taking z l x ∷ []) (ap address (sym fits.1.1.1) ∙ fits.1.1.2) in
       rw say (taken_went (ops.takes b.part a l x) b a l x answer byte p (with_eighth w t) refl then (omega (arith, long)) sends (ap some_byte fits.1.1.1) fits.1.1.2)
 
-  bit_went : (q : Bool) (kind : Kind) (b : Board S) (w : Bool) (l : Levels) (bits so-far : ℕ) (pulled answer : Bool) (byte : ℕ) (o : Option Transfer) → ltb bits 7 ≡ q
-      → Coming false kind bits so-far o
-      → Went (bit_taken ops q b kind bits l (so-far % 128 * 2 + bit_value w)) true b.part (told (rose w) l o) answer byte (rising w pulled o)
-  bit_went true kind b w l bits so-far pulled answer byte o e c =
+  bit_went : (q : Bool) (kind : Kind) (b : Board S) (w : Bool) (l : Levels) (bits so_far : ℕ) (pulled answer : Bool) (byte : ℕ) (o : Option Transfer) → ltb bits 7 ≡ q
+      → Coming false kind bits so_far o
+      → Went (bit_taken ops q b kind bits l (so_far % 128 * 2 + bit_value w)) true b.part (told (rose w) l o) answer byte (rising w pulled o)
+  bit_went true kind b w l bits so_far pulled answer byte o e c =
       let lt = ltb-true bits 7 e in
       let small = value_small c.t.bits (omega (arith, c.long, c.few)) in
       silent _ true b.part _ answer byte _ (no_offer l w o c.t c.is (λ z. absurd (omega (arith, c.long, z)))) refl
@@ -340,7 +340,7 @@ module _ {S : Type 0} (ops : Ops S) where
         fits = c.fits;
         unpulled = unpulled_high c.t.bytes w c.t.bits (not_giving c.t.bytes c.sends);
       })
-  bit_went false kind b w l bits so-far pulled answer byte o e c =
+  bit_went false kind b w l bits so_far pulled answer byte o e c =
       let le = ltb-false bits 7 e in
       let few = c.few in
       let long : length c.t.bits ≡ 7 = omega (arith, c.long) in
@@ -391,7 +391,7 @@ module _ {S : Type 0} (ops : Ops S) where
       let d = dead_rise w l answer byte o h.t h.is h.dead in
       let unpulled : pulls_by false o answer byte ≡ false = pull_of Deaf false answer byte o h in
       rw unpulled (stays Deaf b true _ answer byte _ e d.0 d.1)
-  rise_went (Taking kind bits so-far) b w l answer byte o e h = bit_went (ltb bits 7) kind b w l bits so-far _ answer byte o refl h
+  rise_went (Taking kind bits so_far) b w l answer byte o e h = bit_went (ltb bits 7) kind b w l bits so_far _ answer byte o refl h
   rise_went (AckDue n) b w l answer byte o e h = absurd (clash h.0)
   rise_went (AckPulled n) b w l answer byte o e h =
       let pull : pulls_by false o answer byte ≡ true = pull_of (AckPulled n) false answer byte o h in

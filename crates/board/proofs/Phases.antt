@@ -107,7 +107,7 @@ pub record Asked (a : ℕ) (o : Option Transfer) : Type 0 where
 abbrev pub Tied : Phase → Bool → Bool → ℕ → Option Transfer → Type 0
 Tied Closed scl answer byte o = o ≡ None
 Tied Deaf scl answer byte o = Deafened scl answer byte o
-Tied (Taking kind bits so-far) scl answer byte o = Coming scl kind bits so-far o
+Tied (Taking kind bits so_far) scl answer byte o = Coming scl kind bits so_far o
 Tied (AckDue next) scl answer byte o = (scl ≡ true) × Due next answer o
 Tied (AckPulled next) scl answer byte o = (scl ≡ false) × Due next answer o
 Tied (AckRisen next) scl answer byte o = (scl ≡ true) × Risen next answer o
@@ -159,7 +159,7 @@ due_pull false answer byte n o d = rw d.is (ap (λ z. pulls_in z answer byte) (s
 pub pull_of : (ph : Phase) (scl answer : Bool) (byte : ℕ) (o : Option Transfer) → Tied ph scl answer byte o → pulls_by scl o answer byte ≡ pulls_now ph
 pull_of Closed scl answer byte o h = rw h refl
 pull_of Deaf scl answer byte o h = rw h.is (dead_pull scl answer byte h.t h.dead)
-pull_of (Taking kind bits so-far) scl answer byte o h = rw h.is (ap (λ z. pulls_in z answer byte) h.unpulled)
+pull_of (Taking kind bits so_far) scl answer byte o h = rw h.is (ap (λ z. pulls_in z answer byte) h.unpulled)
 pull_of (AckDue n) scl answer byte o h = due_pull scl answer byte n o h.1 ∙ ap not h.0
 pull_of (AckPulled n) scl answer byte o h = due_pull scl answer byte n o h.1 ∙ ap not h.0
 pull_of (AckRisen n) scl answer byte o h = rw (h.1.is, h.0) (ap (λ z. pulls_in (cond z ack free) answer byte) h.1.sends ∙ h.1.answered)
@@ -175,12 +175,12 @@ alone : (b : Bool) → (b && true) ≡ b
 alone true = refl
 alone false = refl
 
-coming_clean : (kind : Kind) (bits : ℕ) (scl : Bool) (so-far : ℕ) (o : Option Transfer) → Coming scl kind bits so-far o → clean o ≡ clean_now (Taking kind bits so-far)
-coming_clean Address bits scl so-far o c = rw (c.is, c.fits) (and_right (eqb (length c.t.bits) 1) _ refl)
-coming_clean (First a) bits scl so-far o c =
+coming_clean : (kind : Kind) (bits : ℕ) (scl : Bool) (so_far : ℕ) (o : Option Transfer) → Coming scl kind bits so_far o → clean o ≡ clean_now (Taking kind bits so_far)
+coming_clean Address bits scl so_far o c = rw (c.is, c.fits) (and_right (eqb (length c.t.bits) 1) _ refl)
+coming_clean (First a) bits scl so_far o c =
     let s = and_parts (all_acked c.t.bytes) _ c.sends in
     rw c.is (rw s.0 (rw (c.fits.1, c.long) (alone (eqb bits 1))))
-coming_clean (Later a) bits scl so-far o c =
+coming_clean (Later a) bits scl so_far o c =
     let s = and_parts (all_acked c.t.bytes) _ c.sends in
     rw c.is (rw s.0 (rw (c.fits.1.1.1, c.long) (alone (eqb bits 1))))
 
@@ -191,7 +191,7 @@ dead_clean scl answer byte t (inr d) = not_one t 8 d.0 (λ z. omega arith)
 pub clean_of : (ph : Phase) (scl answer : Bool) (byte : ℕ) (o : Option Transfer) → Tied ph scl answer byte o → clean o ≡ clean_now ph
 clean_of Closed scl answer byte o h = rw h refl
 clean_of Deaf scl answer byte o h = rw h.is (dead_clean scl answer byte h.t h.dead)
-clean_of (Taking kind bits so-far) scl answer byte o h = coming_clean kind bits scl so-far o h
+clean_of (Taking kind bits so_far) scl answer byte o h = coming_clean kind bits scl so_far o h
 clean_of (AckDue n) scl answer byte o h = rw h.1.is (not_one h.1.t 8 h.1.long (λ z. omega arith))
 clean_of (AckPulled n) scl answer byte o h = rw h.1.is (not_one h.1.t 8 h.1.long (λ z. omega arith))
 clean_of (AckRisen n) scl answer byte o h = rw h.1.is refl

@@ -64,9 +64,9 @@ module _ {S : Type 0} (ops : Ops S) where
       → pulls_now (rise_at ops ph b w l).bus.phase ≡ pulls_now ph
   rise_pull Closed b w l answer byte o e t = ap pulls_now e
   rise_pull Deaf b w l answer byte o e t = ap pulls_now e
-  rise_pull (Taking kind bits so-far) b w l answer byte o e t = by (ltb bits 7)
+  rise_pull (Taking kind bits so_far) b w l answer byte o e t = by (ltb bits 7)
     where
-      by : (q : Bool) → pulls_now (bit_taken ops q b kind bits l (so-far % 128 * 2 + bit_value w)).bus.phase ≡ false
+      by : (q : Bool) → pulls_now (bit_taken ops q b kind bits l (so_far % 128 * 2 + bit_value w)).bus.phase ≡ false
       by true = refl
       by false = whole_pull kind b l _
   rise_pull (AckDue n) b w l answer byte o e t = refl

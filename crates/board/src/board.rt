@@ -94,7 +94,7 @@ impl<P: Part> Board<P> {
         self.bus = Bus::idle();
     }
 
-    // The lasting byte of a cell.
+    // The stored byte of a cell.
     pub fn cell(&self, part: usize, n: usize) -> Result<u8, Refusal>
         ensures { told (λ x. x) result ≡ cell_told P.Part.ops self.now part n }
     {

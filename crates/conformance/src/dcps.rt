@@ -1,9 +1,9 @@
 // First bytes and reads of the DCPs of the X9520, part 0: docs/RULES.md, "Writing". AEh is their address byte for writing.
 
 use crate::case::Case;
-use crate::case::Step::{Cell, Do, Run, Tap, Wires};
-use crate::files::{CUT_LOSING, DISABLE, FINISH_0, READ_DCP, WEL};
-use crate::wire::Wire::{Bits, Bytes, Raw, Start};
+use crate::case::Step::{Do, Run, Tap, Wires};
+use crate::files::{CUT_LOSING, DISABLE, READ_DCP, WEL};
+use crate::wire::Wire::{Bytes, Start};
 
 pub static CASES: &[Case] = &[
     Case {

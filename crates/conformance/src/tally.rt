@@ -7,7 +7,6 @@ use ds1846::state::Ds1846;
 use echo::Echo;
 use pair::Pair;
 use part::Part;
-use std::alloc::Global;
 use std::io;
 use x9520::state::X9520;
 

@@ -92,7 +92,7 @@ module _ {S A : Type 0} (ops : Ops S) (f : S → A) (leaves : Leaves ops f) (l :
       let w : S × Told (List ℕ) = addressed ops l a aim (ops.level s l) in
       fetched_leaves (read_byte a) n w.1 w.0 ∙ addressed_leaves a aim h (ops.level s l) ∙ leaves.level s l
 
--- every part leaves its lasting bytes and the writes under way
+-- every part leaves its stored bytes and the writes under way
 module _ {S : Type 0} (ops : Ops S) (keeps : Keeps ops) where
   cell_left : (k i : ℕ) → Leaves ops (λ s. ops.cell s k i)
   cell_left k i = record {
@@ -200,7 +200,7 @@ module _ {S : Type 0} (ops : Ops S) (keeps : Keeps ops) (l : Levels) (a : ℕ) (
         (reads_as (λ j v is. is ∙ ap (λ x. x % 256) (sym (was.cell ((i + j) % 256))))
         (subst (λ m. Reads chip l m (i ∷ []) n (sits.see b.part) (λ j v. v ≡ chip.cell (sits.see b.part) 0 ((i + j) % 256) % 256)) (sym at) (reads i (sym was.busy ∙ ready) h))))
 
-  -- the wipers of a DS1846 follow its lasting bytes
+  -- the wipers of a DS1846 follow its stored bytes
   ds1846_fetches : (sits : Sits ops ds1846) → Owned sits b.part a → Ds1846Fetches ops l a aim n b (sits.number b.part)
   ds1846_fetches sits mine =
       let was = asked sits (now sits b idle_b) in

@@ -7,12 +7,12 @@ pub mod Ds1846Storing
 pub mod Ends
 pub mod FetchingBack
 pub mod Filling
-pub mod GivenBytes
-pub mod Gives
+pub mod GivenSamples
 pub mod Giving
 pub mod MemoryStoring
 pub mod Over
 pub mod ReadWork
+pub mod ReceivedBytes
 pub mod Receives
 pub mod Recovering
 pub mod RegisterStoring

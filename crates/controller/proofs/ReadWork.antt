@@ -17,7 +17,7 @@ use Rattle.controller.specs.Master.{ended, ◌then◌, run}
 use Rattle.controller.specs.Work.{given, done, on_ack, on_ok, opened, sent, addressed, fetched, on_idle, read as read_work}
 use Rattle.controller.proofs.Bits.{taking, deaf, gone}
 use Rattle.controller.proofs.Ends.{first_start, next_start, deaf_stop}
-use Rattle.controller.proofs.GivenBytes.{coming, read_more, read_last}
+use Rattle.controller.proofs.ReceivedBytes.{coming, read_more, read_last}
 use Rattle.controller.proofs.Runs.{onward}
 use Rattle.controller.proofs.Sends.{closes}
 use Rattle.controller.proofs.Settling.{sent_settles, addressed_settles, given_settles}

@@ -10,7 +10,7 @@ use Rattle.board.specs.Clocks.{clock, clocks, Frees}
 use Rattle.board.specs.Runs.{Sampled}
 use Rattle.board.proofs.Clocks.{bound, at_most_nine, clock_low}
 use Rattle.controller.specs.Master.{Master, ended, ◌then◌, run}
-use Rattle.controller.specs.Bytes.{put, stop, clock as clock-master}
+use Rattle.controller.specs.Bytes.{put, stop, clock as clock_master}
 use Rattle.controller.specs.Recovery.{release, clocking, recovering, released, Recovers}
 use Rattle.controller.proofs.Runs.{put_sample, onward}
 use Rattle.controller.proofs.Sampling.{job_sampled}
@@ -19,12 +19,12 @@ module _ {S : Type 0} (ops : Ops S) (l : Levels) where
   put_run : (scl sda : Bool) (b : Board S) → run ops (put l scl sda) b ≡ (move ops b scl sda l, (move ops b scl sda l).bus.sda)
   put_run scl sda b = put_sample ops l scl sda b _ _ refl refl
 
-  clock_run : (b : Board S) → run ops (clock-master l) b ≡ (clock ops l b, (clock ops l b).bus.sda)
-  unfolding clock-master
+  clock_run : (b : Board S) → run ops (clock_master l) b ≡ (clock ops l b, (clock ops l b).bus.sda)
+  unfolding clock_master
   clock_run b = onward ops (put l false true) (λ _. put l true true) b _ _ (put_run false true b) (put_run true true _)
 
   -- from the clock's contract to the board and the level
-  clocked : (b c : Board S) (high : Bool) {level : Bool} → high ≡ level → run ops (clock-master l) b ≡ (c, high) → (c ≡ clock ops l b) × ((clock ops l b).bus.sda ≡ level)
+  clocked : (b c : Board S) (high : Bool) {level : Bool} → high ≡ level → run ops (clock_master l) b ≡ (c, high) → (c ≡ clock ops l b) × ((clock ops l b).bus.sda ≡ level)
   clocked b c high is e = (ap (λ r. r.0) (sym e ∙ clock_run b), ap (λ r. r.1) (sym (clock_run b) ∙ e) ∙ is)
 
   -- before clock number k: all before it read LOW
@@ -45,7 +45,7 @@ module _ {S : Type 0} (ops : Ops S) (l : Levels) where
   low_too start j low last i h (inr e) = ap (λ i. (clocks ops l i start).bus.sda) e ∙ last
 
   -- one more that reads LOW
-  pub so_far_more : (start b c : Board S) (k : ℕ) (high : Bool) → high ≡ false → SoFar start b k → run ops (clock-master l) b ≡ (c, high) → SoFar start c (k + 1)
+  pub so_far_more : (start b c : Board S) (k : ℕ) (high : Bool) → high ≡ false → SoFar start b k → run ops (clock_master l) b ≡ (c, high) → SoFar start c (k + 1)
   so_far_more start b c k high is s e =
       let j = s.before in
       let stepped = clocked b c high is e in
@@ -62,15 +62,15 @@ module _ {S : Type 0} (ops : Ops S) (l : Levels) where
   pub so_far_small : (start b : Board S) (k : ℕ) → SoFar start b k → k ≤ 10
   so_far_small start b k s = omega (arith, s.number, s.left)
 
-  pub nearer : (b c : Board S) (high : Bool) → high ≡ false → run ops (clock-master l) b ≡ (c, high) → bound c < bound b
+  pub nearer : (b c : Board S) (high : Bool) → high ≡ false → run ops (clock_master l) b ≡ (c, high) → bound c < bound b
   nearer b c high is e = let stepped = clocked b c high is e in rw stepped.0 (clock_low ops b l stepped.1)
 
   -- the first that reads HIGH
-  pub high_board : (start b c : Board S) (k : ℕ) (level : Bool) → level ≡ true → SoFar start b k → run ops (clock-master l) b ≡ (c, level) → c ≡ clocks ops l k start
+  pub high_board : (start b c : Board S) (k : ℕ) (level : Bool) → level ≡ true → SoFar start b k → run ops (clock_master l) b ≡ (c, level) → c ≡ clocks ops l k start
   high_board start b c k level is s e =
       (clocked b c level is e).0 ∙ ap (clock ops l) s.board ∙ ap (λ k. clocks ops l k start) (sym s.number)
 
-  pub high_frees : (start b c : Board S) (k : ℕ) (level : Bool) → level ≡ true → SoFar start b k → run ops (clock-master l) b ≡ (c, level) → Frees ops l k start
+  pub high_frees : (start b c : Board S) (k : ℕ) (level : Bool) → level ≡ true → SoFar start b k → run ops (clock_master l) b ≡ (c, level) → Frees ops l k start
   high_frees start b c k level is s e =
       let stepped = clocked b c level is e in
       record {
@@ -92,7 +92,7 @@ module _ {S : Type 0} (ops : Ops S) (l : Levels) where
   unfolding clocking
   reached start k f zero j h m = let none : ⊥ = omega (arith, h, m) in absurd none
   reached start k f (suc n) j h m =
-      onward ops (clock-master l) (λ high. cond high (after_clocks (j + 1)) (clocking l n (j + 1 + 1))) (clocks ops l j start) (clocks ops l (suc j) start) _
+      onward ops (clock_master l) (λ high. cond high (after_clocks (j + 1)) (clocking l n (j + 1 + 1))) (clocks ops l j start) (clocks ops l (suc j) start) _
       (clock_run (clocks ops l j start)) (by_test (ltb (suc j) k) refl (reached start k f n (suc j)))
     where
       by_test : (t : Bool) → ltb (suc j) k ≡ t

@@ -44,7 +44,7 @@ module _ (k : Latches) (r : ℕ) where
   byte_stored true x is_zero rwel clear set = absurd (clash (sym (ap (bit 2) (eqb-true x 0 is_zero)) ∙ set))
   byte_stored false x not_zero rwel clear set = rw (not_zero, rwel, set, clear) refl
 
--- an accepted job of the chip s that leaves the lasting bytes and the wipers as they were, and WEL set
+-- an accepted job of the chip s that leaves the stored bytes and the wipers as they were, and WEL set
 pub record Took (s : X9520) (w : X9520 × Told (List ℕ)) : Type 0 where
   pub accepted : w.1 ≡ ok []
   pub cells : (i : ℕ) → x9520.cell w.0 0 i ≡ x9520.cell s 0 i

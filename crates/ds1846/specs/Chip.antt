@@ -85,7 +85,7 @@ given turn s = cond turn (byte_at s.eeprom s.counter) 255
 abbrev pub gave : Bool → Ds1846 → Ds1846
 gave turn s = chip s.eeprom (cond turn ((s.counter + 1) % 256) s.counter) s.mode
 
--- the wipers follow the lasting bytes: wiper 1 has 256 taps; of wipers 0 and 2 the low seven bits count, up to tap 99
+-- the wipers follow the stored bytes: wiper 1 has 256 taps; of wipers 0 and 2 the low seven bits count, up to tap 99
 abbrev pub tap_of : ℕ → ℕ
 tap_of n = cond (nat_lt 99 n) 99 n
 

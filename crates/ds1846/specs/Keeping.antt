@@ -16,7 +16,7 @@ use Rattle.ds1846.specs.declared.state.Mode.{Mode}
 use Rattle.ds1846.specs.declared.state.Mode.TheVariants.{Idle, Aiming, Writing, Reading}
 use Rattle.ds1846.specs.Chip.{ds1846, as_part, heard_in, hears, mode_after, is_aiming, aims, is_writing, takes, cells_taken, tap_at}
 
--- the wipers follow the lasting bytes
+-- the wipers follow the stored bytes
 pub tap_same : (e f : Eeprom 256) → ((i : ℕ) → byte_at f i ≡ byte_at e i) → (j : ℕ) → tap_at f j ≡ tap_at e j
 tap_same e f h j = let a = h 249 in let b = h 248 in let c = h 250 in cc
 

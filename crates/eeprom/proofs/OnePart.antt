@@ -14,7 +14,7 @@ use Rattle.eeprom.specs.OnePart.{OnePart, of_part, hears_at, part_of}
 use Rattle.eeprom.proofs.Moves.{staged_in, under_in, unstages_staged, cuts_byte, cuts_staged, cuts_under}
 use Rattle.eeprom.proofs.Numbered.{part_none, other_part, owned, write_of, busy_of, busy_from, stopped_byte, stopped_staged, stopped_under, finish_stores, finish_ends, finish_staged, elsewhere, cut_stores, apart, deaf_while_busy, begins_in, never_busy}
 
--- no lasting byte changes, and no write under way comes, goes or changes
+-- no stored byte changes, and no write under way comes, goes or changes
 pub record Rests {N : ℕ} (e f : Eeprom N) : Type 0 where
   pub byte : (i : ℕ) → byte_at f i ≡ byte_at e i
   pub under : (i : ℕ) → under_at f i ≡ under_at e i

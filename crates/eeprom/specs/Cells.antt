@@ -18,7 +18,7 @@ unfoldable pub all_of : {A : Type 0} → ℕ → A → List A
 all_of n a = replicate n a
 
 module _ {N : ℕ} where
-  -- a cell's lasting byte, the value staged for it, and the value that a write under way brings it
+  -- a cell's stored byte, the value staged for it, and the value that a write under way brings it
   abbrev pub byte_at : Eeprom N → ℕ → ℕ
   byte_at e = place N 0 e.bytes
 

@@ -12,7 +12,7 @@ mod writes;
 use std::array;
 use writes::Writes;
 
-// Cell n has the lasting byte bytes[n]; what is staged for cells and what is under way to them are writes.
+// Cell n has the stored byte bytes[n]; what is staged for cells and what is under way to them are writes.
 // These are three arrays and not one of cells with three fields, for speed: a START drops all that is staged, which is one fill, and
 // none where nothing is.
 #[derive(Clone, Copy, PartialEq, Eq, Debug)]

@@ -28,7 +28,7 @@ module _ {S : Type 0} (ops : Ops S) where
     pub wipers : (k : ℕ) → ops.wipers t k ≡ ops.wipers s k
     pub offset : (k i : ℕ) → ops.offset t k i ≡ ops.offset s k i
 
-  -- no lasting byte changes, and no write under way comes, goes or changes
+  -- no stored byte changes, and no write under way comes, goes or changes
   pub record Lasting (s t : S) : Type 0 where
     pub cell : (k i : ℕ) → ops.cell t k i ≡ ops.cell s k i
     pub under : (k i : ℕ) → ops.under t k i ≡ ops.under s k i

@@ -14,7 +14,7 @@ pub record Ops (S : Type 0) : Type 0 where
   pub cells : S → ℕ → ℕ
   pub wipers : S → ℕ → ℕ
   pub offset : S → ℕ → ℕ → ℕ
-  -- a cell's lasting byte, the value staged for it, and the value that a write under way brings it
+  -- a cell's stored byte, the value staged for it, and the value that a write under way brings it
   pub cell : S → ℕ → ℕ → ℕ
   pub staged : S → ℕ → ℕ → Option ℕ
   pub under : S → ℕ → ℕ → Option ℕ

@@ -27,7 +27,7 @@ pub trait Part {
     fn owns(&self, part: usize, address: u8) -> bool
         ensures { result ≡ is part (ops.owner self.now address) };
 
-    // A cell's lasting byte, or none where the numbered part has no such cell.
+    // A cell's stored byte, or none where the numbered part has no such cell.
     fn cell(&self, part: usize, n: usize) -> Option<u8>
         ensures { result ≡ below (ops.cells self.now part) n (ops.cell self.now part n) };
 

@@ -4,7 +4,7 @@ use Rattle.std.proofs.lemmas.List.{length_push}
 use Rattle.std.proofs.lemmas.Bool.{lt-ltb}
 use Rattle.rows.specs.Rows.{items_of}
 use Rattle.rows.proofs.Growing.{grown_none, grown_more, length_grown}
-use Rattle.controller.proofs.Gives.{good_next, given_more, given_all}
+use Rattle.controller.proofs.GivenSamples.{good_next, given_more, given_all}
 use Rattle.controller.proofs.samples.give_all.Goals as goal
 
 one_longer : (got : List ℕ) (v n : ℕ) → length got ≡ n → length (got ++ (v ∷ [])) ≡ n + 1
