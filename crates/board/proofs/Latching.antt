@@ -19,7 +19,7 @@ use Rattle.x9520.specs.Register.{stored_register}
 use Rattle.x9520.proofs.Lock.{Guarded, latching_empty}
 use Rattle.x9520.proofs.Calm.{stop_latches, finish_latches, cut_latches, latched_wel, latched_rwel}
 use Rattle.x9520.proofs.Waiting.{Idles, storing_disarms}
-use Rattle.x9520.proofs.Place.{Place, outside, aimed, opened, holding, where_is, is_holding}
+use Rattle.x9520.proofs.Place.{holding, where_is, held_byte, is_holding}
 use Rattle.board.specs.declared.board.Board.{Board}
 use Rattle.board.specs.declared.bus.Phase.TheVariants.{Closed}
 use Rattle.board.specs.declared.call.Call.{Call}
@@ -28,12 +28,6 @@ use Rattle.board.specs.Runs.{edge_of, state, history}
 use Rattle.board.specs.Cause.{wp_of}
 use Rattle.board.specs.Lock.{IsCut, Registers}
 use Rattle.board.proofs.Events.{Event, calm, stops, finishes, cuts, event, guarded, waiting, cell_is, staged_is, sent_by, held_by}
-
-abbrev held_byte : Place → ℕ
-held_byte outside = 0
-held_byte aimed = 0
-held_byte opened = 0
-held_byte (holding v) = v
 
 module _ {S : Type 0} (ops : Ops S) (keeps : Keeps ops) (number : S → ℕ) (see : S → X9520) (seat : Seat ops x9520 number see)
     (b : Board S) (closed : b.bus.phase ≡ Closed) (new : see b.part ≡ fresh) (calls : ℕ → Call) where

@@ -1,4 +1,4 @@
-// The X9520, part 0, with WP HIGH (level 04h): docs/RULES.md, "The WP rule".
+// The X9520, part 0, with WP HIGH (level 04h): docs/RULES.md, "The register".
 // A4h is the register's address byte for writing, AEh that of the DCPs.
 
 use crate::case::Case;

@@ -3,7 +3,7 @@
 // is (`run`) is the contract of each: no two are the same.
 ghost use Rattle.std.specs.Prelude.{◌≡◌};
 ghost use Rattle.controller.specs.Master.{run};
-ghost use Rattle.controller.specs.Bytes.{put, start, stop, send_bit, read_bit, send_bits, read_bits, send, receive};
+ghost use Rattle.controller.specs.Bytes.{put, start, stop, send_bit, read_bit, send, receive};
 
 use board::board::Board;
 use part::Part;

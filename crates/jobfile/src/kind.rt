@@ -1,5 +1,4 @@
 // The kinds of jobs.
-ghost use Rattle.std.specs.Prelude.{◌≡◌};
 ghost use Rattle.jobfile.specs.Kinds.{Decodes};
 
 use refusals::Refusal;

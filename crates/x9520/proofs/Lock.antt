@@ -251,7 +251,7 @@ moved_stored s x j h =
     }
 
 -- the byte held
-abbrev byte_held : Mode → ℕ
+abbrev pub byte_held : Mode → ℕ
 byte_held Idle = 0
 byte_held (Aiming d) = 0
 byte_held MemoryBytes = 0

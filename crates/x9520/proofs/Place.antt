@@ -48,7 +48,7 @@ tag aimed = 1
 tag opened = 2
 tag (holding v) = 3
 
-abbrev held_byte : Place → ℕ
+abbrev pub held_byte : Place → ℕ
 held_byte outside = 0
 held_byte aimed = 0
 held_byte opened = 0

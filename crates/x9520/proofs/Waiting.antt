@@ -13,7 +13,7 @@ use Rattle.x9520.specs.Chip.{x9520, hears, latches_stopped}
 use Rattle.x9520.specs.Register.{bit, stored_register}
 use Rattle.x9520.specs.State.{fresh, heard_in, mode_after, device}
 use Rattle.x9520.specs.Writing.{aim_of, Verdict, refused, barred, pages, moves, latches, stores, memory_verdict, dcp_verdict, armed_verdict, register_verdict, verdict_in, verdict, mode_taken}
-use Rattle.x9520.proofs.Lock.{mode_tag, other_mode, heard_tag, aimed_tag}
+use Rattle.x9520.proofs.Lock.{mode_tag, other_mode, heard_tag, aimed_tag, byte_held}
 use Rattle.x9520.proofs.Calm.{taken_rwel}
 
 -- a byte with bits 2 and 1 set
@@ -71,23 +71,12 @@ judged s a wp x =
     cond_both (is a (heard_in s.mode)) (verdict_in s.mode s.latches (stored_register s) s.counter wp x) refused (Judged s.latches x)
     (λ e. judged_in s.mode s.latches (stored_register s) s.counter wp x) (λ e. tt)
 
-abbrev byte_waiting : Mode → ℕ
-byte_waiting Idle = 0
-byte_waiting (Aiming d) = 0
-byte_waiting MemoryBytes = 0
-byte_waiting (DcpByte store) = 0
-byte_waiting RegisterByte = 0
-byte_waiting Moved = 0
-byte_waiting (Latching x) = x
-byte_waiting (Storing x) = 0
-byte_waiting (Reading d) = 0
-
 take_waits : (w : Verdict) (l : Latches) (x v : ℕ) → Judged l x w → mode_taken w x ≡ Latching v → (l.rwel ≡ true) → (v ≡ 0) ⊎ Idles v
 take_waits refused l x v j e h = other_mode Idle (Latching v) e (λ z. omega arith)
 take_waits barred l x v j e h = other_mode Idle (Latching v) e (λ z. omega arith)
 take_waits pages l x v j e h = other_mode MemoryBytes (Latching v) e (λ z. omega arith)
 take_waits (moves store) l x v j e h = other_mode Moved (Latching v) e (λ z. omega arith)
-take_waits latches l x v j e h = rw (sym (ap byte_waiting e)) (j h)
+take_waits latches l x v j e h = rw (sym (ap byte_held e)) (j h)
 take_waits stores l x v j e h = other_mode (Storing x) (Latching v) e (λ z. omega arith)
 
 -- an address byte and a first byte leave none waiting
