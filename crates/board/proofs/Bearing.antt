@@ -7,7 +7,7 @@ use Rattle.part.specs.declared.levels.Levels.{Levels}
 use Rattle.part.specs.Ops.{Ops}
 use Rattle.part.specs.Keeps.{Keeps, Fixed, Fades}
 use Rattle.part.specs.Moves.{Move, giving as giving_byte, moved, after}
-use Rattle.board.specs.Samples.{levels}
+use Rattle.board.specs.Samples.{odd, levels}
 use Rattle.board.specs.Wires.{rose, fell, edge, Byte, Transfer, transfer, value, next, rising, address, reading, all_acked, acked_by, sending, giving, values, carried}
 use Rattle.board.specs.Runs.{pulls_by, told, offered, answer_after}
 use Rattle.board.specs.Cause.{Among}
@@ -76,7 +76,7 @@ module _ {S : Type 0} (ops : Ops S) (keeps : Keeps ops) where
         is = rw (r.is, e) refl;
         few = omega arith;
         acked = and_from _ _ r.acked (ap (λ z. acked_by z x) r.writing ∙ pull);
-        writing = ap (λ a. Rattle.board.specs.Samples.odd a) same ∙ r.writing;
+        writing = ap odd same ∙ r.writing;
         mine = ap (λ a. ops.owner s (a / 2)) same ∙ r.mine;
         answered = λ z. absurd (omega (arith, z));
         carries = carries;

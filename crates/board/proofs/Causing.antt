@@ -6,7 +6,7 @@ use Rattle.std.proofs.lemmas.Option.{none-some}
 use Rattle.part.specs.declared.levels.Levels.{Levels}
 use Rattle.part.specs.declared.power.PowerCut.{PowerCut}
 use Rattle.part.specs.Ops.{Ops}
-use Rattle.part.specs.Keeps.{Keeps, Fixed, Lasting, Fades, Stops, Marked, stored}
+use Rattle.part.specs.Keeps.{Keeps, Fixed, Lasting, Fades, Stops, Finishes, Cuts, Marked, stored}
 use Rattle.part.specs.Moves.{Move, moved, after}
 use Rattle.board.specs.declared.board.Board.{Board}
 use Rattle.board.specs.declared.call.Call.{Call}
@@ -14,7 +14,7 @@ use Rattle.board.specs.declared.call.Call.TheVariants.{Sample, Finish, Cut}
 use Rattle.board.specs.declared.bus.Phase.TheVariants.{Closed}
 use Rattle.board.specs.Engine.{numbered}
 use Rattle.board.specs.Samples.{levels}
-use Rattle.board.specs.Wires.{Edge, steady, started, stopped, rose, fell, edge, Byte, Transfer, transfer, value, reading, all_acked, acked_by, sending, giving, some_byte, address, is_clean, clean, values, carried}
+use Rattle.board.specs.Wires.{Edge, steady, started, stopped, rose, fell, edge, next, Byte, Transfer, transfer, value, reading, all_acked, acked_by, sending, giving, some_byte, address, is_clean, clean, values, carried}
 use Rattle.board.specs.Runs.{History, pulls_by, told, offered, edge_of, onward, state, history}
 use Rattle.board.specs.Cause.{Among, EachPulled, Writes, Written, Caused}
 use Rattle.board.proofs.Running.{Advances, advances, good}
@@ -132,7 +132,7 @@ module _ {S : Type 0} (ops : Ops S) (keeps : Keeps ops) where
   finish_fate : (b : Board S) (q : ℕ) (c : Board S) (h : History) (k i : ℕ) → c.part ≡ ops.finish b.part q → Fate b (Finish q) c h k i
   finish_fate b q c h k i e = elim (cases_eq k q) [ inl same ↦ mine same | inr other ↦ others other ]
     where
-      f : Rattle.part.specs.Keeps.Finishes ops b.part q (ops.finish b.part q)
+      f : Finishes ops b.part q (ops.finish b.part q)
       f = keeps.finishes b.part q
 
       mine : k ≡ q → Fate b (Finish q) c h k i
@@ -150,7 +150,7 @@ module _ {S : Type 0} (ops : Ops S) (keeps : Keeps ops) where
     under = λ v u. absurd (none-some v (sym (f.ends k i) ∙ ap (λ s. ops.under s k i) (sym e) ∙ u));
   }
     where
-      f : Rattle.part.specs.Keeps.Cuts ops b.part p (ops.cut b.part p)
+      f : Cuts ops b.part p (ops.cut b.part p)
       f = keeps.cuts b.part p
 
       by : (t : Bool) → eqb (p.mask / 2 ^ ops.offset b.part k i % 2) 1 ≡ t → (ops.cell c.part k i ≡ ops.cell b.part k i) ⊎ (ops.under b.part k i ≡ Some (ops.cell c.part k i))
@@ -196,8 +196,7 @@ module _ {S : Type 0} (ops : Ops S) (keeps : Keeps ops) where
       let same = a.refused e in
       subst (λ d. let n = onward ops b (Sample x) d h in Open ops keeps n.answer n.opened d.part) (sym same) (rw e (edge_kept b.bus.scl b.bus.sda held))
     where
-      edge_kept : (p d : Bool) → Open ops keeps h.answer h.opened b.part
-          → Open ops keeps h.answer (Rattle.board.specs.Wires.next (edge p p d d) (pulls_by b.bus.scl h.opened h.answer h.byte) h.opened) b.part
+      edge_kept : (p d : Bool) → Open ops keeps h.answer h.opened b.part → Open ops keeps h.answer (next (edge p p d d) (pulls_by b.bus.scl h.opened h.answer h.byte) h.opened) b.part
       edge_kept true true z = z
       edge_kept true false z = z
       edge_kept false d z = z

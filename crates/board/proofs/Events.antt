@@ -1,6 +1,6 @@
 -- What each call of a run is to an X9520 on the board, and what holds of the chip in every state. Assumes nothing.
 use Rattle.std.proofs.Common.{◌≡◌, ℕ, zero, suc, ◌/◌, Bool, true, false, cond, ◌&&◌, List, [], ◌∷◌, length, eqb, ltb, Some, Option, refl, sym, ap, ◌∙◌, subst, inl, inr, arith}
-use borrow.Author.Tests.{clash}
+use borrow.Author.Tests.{clash, eqb-true}
 use Rattle.std.proofs.lemmas.Bool.{and_parts, cond-true, cases_eq}
 use Rattle.std.proofs.lemmas.Option.{none-some}
 use Rattle.part.specs.declared.levels.Levels.{Levels}
@@ -178,7 +178,7 @@ module _ {S : Type 0} (ops : Ops S) (keeps : Keeps ops) (number : S → ℕ) (se
     by_at n t e c =
         let p = and_parts (eqb (length t.bits) 1) _ c in
         let a = and_parts (some_byte t.bytes) _ p.1 in
-        let one : length t.bits ≡ 1 = Rattle.std.proofs.lemmas.Bool.eqb-true _ 1 p.0 in
+        let one : length t.bits ≡ 1 = eqb-true _ 1 p.0 in
         subst (By ops keeps number see seat (B n).part) (one_rise ops keeps t c) ((placed n t e).by (a.1, λ z s. absurd (omega (arith, one, z))))
 
     holds_at : (n v : ℕ) (bs : List Byte) → some_byte bs ≡ true → By ops keeps number see seat (B n).part (values bs) → where_is (C n).mode ≡ holding v

@@ -7,6 +7,7 @@ use Rattle.part.specs.declared.levels.Levels.{Levels}
 use Rattle.part.specs.declared.power.PowerCut.{PowerCut}
 use Rattle.part.specs.Ops.{Ops}
 use Rattle.part.specs.Keeps.{Keeps}
+use Rattle.part.specs.Moves.{levelling}
 use Rattle.part.specs.Seats.{Seat}
 use Rattle.eeprom.specs.Cells.{byte_at, under_at}
 use Rattle.protection.specs.Lock.{locks_wipers}
@@ -49,8 +50,7 @@ module _ {S : Type 0} (ops : Ops S) (keeps : Keeps ops) (number : S → ℕ) (se
   -- a thing that a register byte locks, from state p to state q: what is the same of it, and what keeps that
   module _ (lock : ℕ → Bool) (Same : X9520 → Type 0) (p q : ℕ)
       (same_calm : (c d : X9520) → CalmMove c d → lock (stored_register c) ≡ true → Same c → Same d)
-      (same_stop : (c : X9520) (clean : Bool) (l : Rattle.part.specs.declared.levels.Levels.Levels) → Guarded c → lock (stored_register c) ≡ true → Same c
-      → Same (x9520.stop (x9520.level c l) clean l))
+      (same_stop : (c : X9520) (clean : Bool) (l : Levels) → Guarded c → lock (stored_register c) ≡ true → Same c → Same (x9520.stop (x9520.level c l) clean l))
       (same_finish : (c : X9520) → Same c → Same (x9520.finish c 0))
       (same_cut : (n : ℕ) → p ≤ n → n < q → IsCut (calls n) → (c : X9520) (w : PowerCut) → Same c → Same (x9520.cut c w)) where
     -- it is the same and still locked, and a register byte under way locks it too
@@ -129,7 +129,7 @@ module _ {S : Type 0} (ops : Ops S) (keeps : Keeps ops) (number : S → ℕ) (se
     either_way true n v e f = inl e
     either_way false n v e f = inr (f e)
 
-    shut_stop : (n : ℕ) (l : Rattle.part.specs.declared.levels.Levels.Levels) → p ≤ n → wp_of (calls n) ≡ l.wp
+    shut_stop : (n : ℕ) (l : Levels) → p ≤ n → wp_of (calls n) ≡ l.wp
         → C (suc n) ≡ x9520.stop (x9520.level (C n) l) (clean_at ops keeps number see seat b closed new calls n) l → IsStop ops keeps number see seat b closed new calls n
         → (IsCut (calls n) → ⊥) → Shut (C n) → Op (suc n) ⊎ Shut (C (suc n))
     shut_stop n l lo low is st nc r =
@@ -144,8 +144,8 @@ module _ {S : Type 0} (ops : Ops S) (keeps : Keeps ops) (number : S → ℕ) (se
           | inr c ↦ inr (subst Shut (sym is) (record { same = same_stop (C n) cl l (guard n) r.shut r.same; shut = ap lock (stop_byte (x9520.level (C n) l) cl l 259) ∙ r.shut; coming = c }))
         ]
       where
-        level_guarded : (c : X9520) (l : Rattle.part.specs.declared.levels.Levels.Levels) → Guarded c → Guarded (x9520.level c l)
-        level_guarded c l g = guarded_step c (Rattle.part.specs.Moves.levelling l) tt g
+        level_guarded : (c : X9520) (l : Levels) → Guarded c → Guarded (x9520.level c l)
+        level_guarded c l g = guarded_step c (levelling l) tt g
 
     shut_event : (n : ℕ) → p ≤ n → n < q → Event ops keeps number see seat (B n) (calls n) (B (suc n)) (history ops b calls n) → Shut (C n) → Op (suc n) ⊎ Shut (C (suc n))
     shut_event n lo hi (calm m f c) r = inr (record { same = same_calm (C n) _ m r.shut r.same; shut = ap lock (calm_register (C n) _ m) ∙ r.shut; coming = λ v u. r.coming v (sym (m.under 259) ∙ u) })
@@ -193,7 +193,7 @@ module _ {S : Type 0} (ops : Ops S) (keeps : Keeps ops) (number : S → ℕ) (se
     locked_byte : (i : ℕ) → locks (register ops b calls k p) i ≡ true → (ops.cell (B q).part k i ≡ ops.cell (B p).part k i) ⊎ Opened ops b calls k (λ r. locks r i) p q
     locked_byte i h = elim (unchanged (λ r. locks r i) (SameByte i) p q
         (λ c d m l s. (m.cells i ∙ s.0, m.under i ∙ s.1))
-        (λ c cl l g h s. (stop_byte (x9520.level c l) cl l i ∙ s.0, stop_locked (x9520.level c l) cl l (guarded_step c (Rattle.part.specs.Moves.levelling l) tt g) i h ∙ s.1))
+        (λ c cl l g h s. (stop_byte (x9520.level c l) cl l i ∙ s.0, stop_locked (x9520.level c l) cl l (guarded_step c (levelling l) tt g) i h ∙ s.1))
         (λ c s. (rests i _ _ _ (finish_either c i) s.1 ∙ s.0, finish_under c i))
         (λ n lo hi cu c w s. (rests i _ _ _ (cut_either c w i) s.1 ∙ s.0, cut_under c w i))
         le (refl, none_by _ (idle_cell i)) (ap (λ r. locks r i) (sym register_is) ∙ h) (idle_cell 259)) [

@@ -12,7 +12,7 @@ use Rattle.board.specs.declared.call.Call.TheVariants.{Sample, Finish, Cut}
 use Rattle.board.specs.declared.bus.Kind.TheVariants.{Address}
 use Rattle.board.specs.declared.bus.Phase.{Phase}
 use Rattle.board.specs.declared.bus.Phase.TheVariants.{Closed, Taking}
-use Rattle.board.specs.Engine.{opened, addressed, bit_taken, lower, act, level, move, moved, sampled, finish_by, numbered}
+use Rattle.board.specs.Engine.{opened, addressed, bit_taken, rise_at, fall_at, lower, act, level, move, moved, sampled, finish_by, numbered}
 use Rattle.board.specs.Samples.{bit_value, odd, levels}
 use Rattle.board.specs.Wires.{Edge, steady, started, stopped, rose, fell, edge, value, Transfer, clean}
 use Rattle.board.specs.Runs.{History, told, step, state, history, edge_of, edge_at}
@@ -101,10 +101,10 @@ module _ {S : Type 0} (ops : Ops S) where
   act_coming true true true false b l v e s t h = absurd (s refl)
   act_coming true true false true b l v e s t h = absurd (t refl)
   act_coming true true false false b l v e s t h = e
-  act_coming true false d w b l v e s t h = ap (λ ph. (Rattle.board.specs.Engine.fall_at ops ph b).bus.phase) e ∙ e
+  act_coming true false d w b l v e s t h = ap (λ ph. (fall_at ops ph b).bus.phase) e ∙ e
   act_coming false true d w b l v e s t h =
       let small = value_small v (omega arith) in
-      ap (λ ph. (Rattle.board.specs.Engine.rise_at ops ph b w l).bus.phase) e
+      ap (λ ph. (rise_at ops ph b w l).bus.phase) e
       ∙ ap (λ z. (bit_taken ops z b Address (length v) l (value v % 128 * 2 + bit_value w)).bus.phase) (lt-ltb (length v) 7 (omega arith))
       ∙ (let y : value v % 128 * 2 + bit_value w ≡ value v * 2 + bit_value w = omega arith in
       let x : length v + 1 ≡ suc (length v) = omega arith in
@@ -150,7 +150,7 @@ module _ {S : Type 0} (ops : Ops S) where
   act_eighth true false d w b l v bit e h r = absurd (let y : ◌≡◌ {A = ℕ} 0 1 = ap rises_in r in omega arith)
   act_eighth false true d w b l v bit e h r =
       let small = value_small v (omega arith) in
-      ap (λ ph. (Rattle.board.specs.Engine.rise_at ops ph b w l).part) e
+      ap (λ ph. (rise_at ops ph b w l).part) e
       ∙ ap (λ z. (bit_taken ops z b Address (length v) l (value v % 128 * 2 + bit_value w)).part) (le-ltb (length v) 7 (omega arith))
       ∙ addressed_part (ops.hears b.part (value v % 128 * 2 + bit_value w)) b (value v % 128 * 2 + bit_value w)
       ∙ ap (ops.address b.part) (let y : value v % 128 * 2 + bit_value w ≡ value v * 2 + bit_value w = omega arith in y)
