@@ -1,7 +1,7 @@
 -- A stored byte changes only by an acknowledged write that ended clean with WP LOW. Assumes nothing.
 use Rattle.std.proofs.Common.{◌≡◌, ℕ, zero, suc, ◌+◌, ◌-◌, ◌/◌, ◌%◌, ◌^◌, ◌≤◌, Bool, true, false, cond, ◌&&◌, ◌⊎◌, List, [], ◌∷◌, length, eqb, ltb, Some, None, Option, ◌≢◌, refl, sym, ap, ◌∙◌, subst, inl, inr, arith, lt-suc_self}
-use borrow.Author.Tests.{clash, eqb-true, eqb-false, ne_eqb}
-use Rattle.std.proofs.lemmas.Bool.{and_parts, cond-true, cases_eq}
+use borrow.Author.Tests.{clash}
+use Rattle.std.proofs.lemmas.Bool.{and_parts, cond-true, cases_eq, eqb-true, eqb-false, ne_eqb}
 use Rattle.std.proofs.lemmas.Option.{none-some}
 use Rattle.part.specs.declared.levels.Levels.{Levels}
 use Rattle.part.specs.declared.power.PowerCut.{PowerCut}

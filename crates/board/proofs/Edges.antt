@@ -1,7 +1,7 @@
 -- At each edge of the wires the phase stays tied to the open transfer, and the part goes through the moves that it is told of. Assumes nothing.
 use Rattle.std.proofs.Common.{◌≡◌, ℕ, zero, suc, ◌+◌, ◌*◌, ◌/◌, ◌%◌, ◌^◌, ◌<◌, ◌≤◌, Bool, true, false, cond, not, ◌&&◌, List, [], ◌∷◌, length, eqb, ltb, leb, Some, Option, refl, sym, ap, ◌∙◌, inl, inr, arith}
-use borrow.Author.Tests.{clash, ltb-true, ltb-false, eqb-true, eqb-false, lt-ltb, le-ltb, ne_eqb, le-leb, lt-leb, not-true}
-use Rattle.std.proofs.lemmas.Bool.{and_parts, and_from, and_left, and_right}
+use borrow.Author.Tests.{clash}
+use Rattle.std.proofs.lemmas.Bool.{and_parts, and_from, and_left, and_right, ltb-true, ltb-false, eqb-true, eqb-false, lt-ltb, le-ltb, ne_eqb, le-leb, lt-leb, not-true}
 use native.Mathlib.Nat.{pow-suc}
 use lib.Pow.{pow_mono}
 use Rattle.part.specs.declared.levels.Levels.{Levels}

@@ -1,7 +1,7 @@
 -- What each call of a run is to an X9520 on the board, and what holds of the chip in every state. Assumes nothing.
 use Rattle.std.proofs.Common.{◌≡◌, ℕ, zero, suc, ◌/◌, Bool, true, false, cond, ◌&&◌, List, [], ◌∷◌, length, eqb, ltb, Some, Option, refl, sym, ap, ◌∙◌, subst, inl, inr, arith}
-use borrow.Author.Tests.{clash, eqb-true}
-use Rattle.std.proofs.lemmas.Bool.{and_parts, cond-true, cases_eq}
+use borrow.Author.Tests.{clash}
+use Rattle.std.proofs.lemmas.Bool.{and_parts, cond-true, cases_eq, eqb-true}
 use Rattle.std.proofs.lemmas.Option.{none-some}
 use Rattle.part.specs.declared.levels.Levels.{Levels}
 use Rattle.part.specs.declared.power.PowerCut.{PowerCut}

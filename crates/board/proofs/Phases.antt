@@ -1,7 +1,7 @@
 -- What the phase of the bus says of the open transfer, and what is told of both when the wires move. Assumes nothing.
 use Rattle.std.proofs.Common.{◌≡◌, ℕ, suc, ◌+◌, ◌-◌, ◌*◌, ◌/◌, ◌%◌, ◌^◌, ◌≤◌, Bool, true, false, cond, not, ◌&&◌, ◌⊎◌, List, [], ◌∷◌, length, eqb, Some, None, Option, refl, sym, ap, ◌∙◌, inl, inr, arith}
-use borrow.Author.Tests.{clash, lt-ltb, le-ltb, ne_eqb}
-use Rattle.std.proofs.lemmas.Bool.{and_parts, and_left, and_right}
+use borrow.Author.Tests.{clash}
+use Rattle.std.proofs.lemmas.Bool.{and_parts, and_left, and_right, lt-ltb, le-ltb, ne_eqb}
 use Rattle.board.specs.declared.bus.Kind.{Kind}
 use Rattle.board.specs.declared.bus.Kind.TheVariants.{Address, First, Later}
 use Rattle.board.specs.declared.bus.Next.{Next}

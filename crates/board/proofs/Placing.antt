@@ -1,7 +1,7 @@
 -- In an acknowledged transfer so far, an X9520 on the board stands where the bytes of that transfer have brought it. Assumes nothing.
 use Rattle.std.proofs.Common.{◌≡◌, ℕ, ◌/◌, ◌%◌, ◌<◌, ◌≤◌, Bool, true, false, cond, not, ◌&&◌, List, [], ◌∷◌, length, eqb, ltb, Some, None, Option, ◌≢◌, refl, sym, ap, ◌∙◌, subst, inl, inr, arith}
-use borrow.Author.Tests.{clash, ltb-true, ltb-false, eqb-true, eqb-false, lt-ltb, eq-eqb, ne_eqb, not-true}
-use Rattle.std.proofs.lemmas.Bool.{and_parts, and_left}
+use borrow.Author.Tests.{clash}
+use Rattle.std.proofs.lemmas.Bool.{and_parts, and_left, ltb-true, ltb-false, eqb-true, eqb-false, lt-ltb, eq-eqb, ne_eqb, not-true}
 use Rattle.std.proofs.lemmas.Option.{none-some, same_Some}
 use Rattle.part.specs.declared.levels.Levels.{Levels}
 use Rattle.part.specs.Ops.{Ops}

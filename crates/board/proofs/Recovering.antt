@@ -1,7 +1,7 @@
 -- Ten rises free the wires, and a START then leaves a board that awaits an address. Assumes nothing.
 use Rattle.std.proofs.Common.{◌≡◌, ℕ, zero, suc, ◌+◌, ◌*◌, ◌/◌, ◌%◌, ◌<◌, ◌≤◌, Bool, true, false, cond, ◌⊎◌, List, ◌∷◌, length, ltb, Option, refl, sym, ap, ◌∙◌, subst, inl, inr, arith, lt-suc_self}
-use borrow.Author.Tests.{clash, lt-ltb, le-ltb}
-use Rattle.std.proofs.lemmas.Bool.{cond-true}
+use borrow.Author.Tests.{clash}
+use Rattle.std.proofs.lemmas.Bool.{cond-true, lt-ltb, le-ltb}
 use Rattle.part.specs.declared.levels.Levels.{Levels}
 use Rattle.part.specs.Ops.{Ops}
 use Rattle.part.specs.Keeps.{Keeps}

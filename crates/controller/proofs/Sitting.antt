@@ -1,7 +1,8 @@
 -- The work of a job on a part is, for a chip that sits directly in it and whose number owns the address, the same work on the chip;
 -- and what the part is asked of it afterwards is asked of the chip.
 use Rattle.std.proofs.Common.{◌≡◌, ℕ, zero, suc, ◌+◌, ◌/◌, ◌%◌, ◌<◌, Bool, true, false, cond, List, [], ◌∷◌, length, Some, sym, refl, ap, ◌∙◌, subst, arith}
-use borrow.Author.Tests.{clash, lt-ltb}
+use borrow.Author.Tests.{clash}
+use Rattle.std.proofs.lemmas.Bool.{lt-ltb}
 use Rattle.refusals.specs.Told.{Told, ok, refused}
 use Rattle.part.specs.Keeps.{Keeps}
 use Rattle.part.specs.Moves.{Move, starting, addressing, aiming, taking, giving, levelling, stopping, finishing, cutting, renewing, moved}

@@ -1,6 +1,6 @@
 -- A write job from idle wires is its work on the part.
 use Rattle.std.proofs.Common.{◌≡◌, ℕ, suc, ◌+◌, ◌%◌, ◌<◌, Bool, true, false, List, [], ◌∷◌, refl, ap, ◌∙◌, arith}
-use borrow.Author.Tests.{ne_eqb}
+use Rattle.std.proofs.lemmas.Bool.{ne_eqb}
 use Rattle.refusals.specs.Told.{Told, ok, refused}
 use Rattle.part.specs.Keeps.{Keeps, Settled}
 use Rattle.part.specs.Ops.{Ops}
