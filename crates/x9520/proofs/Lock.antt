@@ -126,7 +126,7 @@ counts_in (Latching y) x n g h = h
 counts_in (Storing y) x n g h = h
 counts_in (Reading d) x n g h = h
 
--- nor does it
+-- a first byte leaves no byte held for the STOP
 pub aimed_tag : (v : Aim) (n : ℕ) → 5 < n → mode_tag (aim_mode v) ≡ n → ⊥
 aimed_tag rejected n lo h = omega arith
 aimed_tag (at_cell i) n lo h = omega arith
@@ -344,7 +344,7 @@ counted (Some Memory) n h = omega arith
 counted (Some Register) n h = h
 counted (Some Dcps) n h = h
 
--- neither the flags nor the counter, inside the memory, is of any weight
+-- whatever the flags are, and wherever in the memory the counter stands
 recounted : (s : X9520) (f : Flags) (n : ℕ) → n < 256 → Guarded s → Guarded (chip s.eeprom s.dcps s.latches f n s.named s.mode)
 recounted s f n small h = record {
   counter_in = small;

@@ -79,7 +79,7 @@ take_waits (moves store) l x v j e h = other_mode Moved (Latching v) e (λ z. om
 take_waits latches l x v j e h = rw (sym (ap byte_held e)) (j h)
 take_waits stores l x v j e h = other_mode (Storing x) (Latching v) e (λ z. omega arith)
 
--- an address byte and a first byte leave none waiting
+-- an address byte leaves none waiting
 addressed_tag : (b : Bool) (x : ℕ) → mode_tag (mode_after b x) ≡ 6 → ⊥
 addressed_tag true x e = heard_tag (eqb (x % 2) 1) (device (x / 2)) 6 (lit< tt) (lit< tt) e
 addressed_tag false x e = omega (arith, e)
