@@ -1,58 +1,29 @@
 -- The reader and its rows after some samples of a recording, and after one more.
-use Rattle.std.proofs.Common.{◌≡◌, ℕ, zero, suc, ◌+◌, ◌^◌, ◌<◌, ◌≤◌, Bool, true, false, List, [], ◌∷◌, ◌++◌, length, get_or, Some, None, Option, option_map, sym, refl, ap, ◌∙◌, arith, add-zero, add-suc, subst, ◌-◌}
-use Rattle.std.proofs.lemmas.Option.{none-some}
+use Rattle.std.proofs.Common.{◌≡◌, ℕ, zero, suc, ◌+◌, ◌^◌, ◌<◌, ◌≤◌, Bool, true, false, List, [], ◌∷◌, length, get_or, Some, None, Option, option_map, sym, refl, ap, ◌∙◌, arith, add-zero, add-suc, subst, ◌-◌}
 use Rattle.std.proofs.lemmas.List.{length_push}
 use Rattle.rows.specs.declared.row.Row.{Row}
-use Rattle.rows.specs.Rows.{items_of, Grown}
+use Rattle.rows.specs.Rows.{items_of}
 use Rattle.rows.proofs.Growing.{length_grown as row_length}
 use Rattle.board.specs.Samples.{bit_value}
-use Rattle.board.specs.Wires.{Edge, steady, started, stopped, rose, fell, edge, Transfer as Open, transfer, risen, is_clean, next}
+use Rattle.board.specs.Wires.{Edge, steady, started, stopped, rose, fell, edge, Transfer as Open, is_clean}
 use Rattle.reader.specs.declared.transfer.Transfer.{Transfer}
 use Rattle.reader.specs.declared.wires.Edge.{Edge as Seen}
 use Rattle.reader.specs.declared.wires.Wires.{Wires}
-use Rattle.reader.specs.Kept.{kept_of, edge_of, starts, AllSmall, wires_after}
+use Rattle.reader.specs.Kept.{kept_of, kept_next, edge_of, starts, AllSmall, wires_after}
 use Rattle.reader.specs.Read.{transfers}
-use Rattle.reader.specs.Steps.{reader_after, stepped, HasLast}
+use Rattle.reader.specs.Steps.{seen, reader_after, stepped, Stands}
 use Rattle.reader.specs.Reading.{opened, prolonged, ended, with_last, going_on, ending, grown, rows_after}
 use Rattle.reader.specs.Recording.{scl_after, sda_after, edge_at, open_after}
-use Rattle.reader.specs.Transfers.{Shows}
 use Rattle.reader.proofs.Keeping.{next_kept, few, few_none, few_next, small_kept}
 
+-- what the next sample shows, and what the reader keeps then
+pub seen_at : (xs : List ℕ) (n : ℕ) → seen (get_or xs n 0) (reader_after xs n) ≡ edge_at xs n
+seen_at xs zero = refl
+seen_at xs (suc n) = refl
+
 pub reader_more : (xs : List ℕ) (n : ℕ) → stepped (get_or xs n 0) (reader_after xs n) ≡ reader_after xs (suc n)
-reader_more xs n = ap (λ o. record { wires = wires_after xs (suc n); opened = o }) (next_kept (scl_after xs n) (scl_after xs (suc n)) (sda_after xs n) (sda_after xs (suc n)) (open_after xs n))
-
--- the last record shows the transfer that is open
-last_changed : (f : Transfer → Transfer) (t : Open) (r : Transfer) (rows : List Transfer) → ((s : Transfer) → Shows (f s) t) → HasLast (Some t) (with_last f (r ∷ rows))
-last_changed f t r [] h = h r
-last_changed f t r (s ∷ []) h = h s
-last_changed f t r (s ∷ (u ∷ rows)) h = last_changed f t s (u ∷ rows) h
-
-last_pushed : (t : Open) (r : Transfer) (rows : List Transfer) → Shows r t → HasLast (Some t) (rows ++ (r ∷ []))
-last_pushed t r [] h = h
-last_pushed t r (s ∷ []) h = h
-last_pushed t r (s ∷ (u ∷ rows)) h = last_pushed t r (u ∷ rows) h
-
-last_prolonged : (n : ℕ) (t : Open) (r : Transfer) (rows : List Transfer) → HasLast (Some t) (with_last (prolonged n t) (r ∷ rows))
-last_prolonged n t r rows = last_changed (prolonged n t) t r rows (λ s. (refl, refl))
-
-last_on : (n : ℕ) (o u : Option Open) (rows : List Transfer) → ((u ≡ None) → o ≡ None) → ((o ≡ None) → u ≡ None) → HasLast o rows → HasLast u (going_on n o u rows)
-last_on n o None rows h k m = tt
-last_on n None (Some u) rows h k m = absurd (none-some _ (sym (k refl)))
-last_on n (Some t) (Some u) [] h k m = absurd m
-last_on n (Some t) (Some u) (r ∷ rows) h k m = last_prolonged n u r rows
-
-last_next : (e : Edge) (pulled : Bool) (n : ℕ) (o : Option Open) (rows : List Transfer) → HasLast o rows → HasLast (next e pulled o) (grown e n o (next e pulled o) rows)
-last_next steady pulled n o rows m = last_on n o o rows (λ h. h) (λ h. h) m
-last_next started pulled n o rows m = last_pushed (transfer [] []) (opened n) (ending n o (λ t. false) rows) (refl, refl)
-last_next stopped pulled n o rows m = tt
-last_next (rose bit) pulled n None rows m = tt
-last_next (rose bit) pulled n (Some t) [] m = absurd m
-last_next (rose bit) pulled n (Some t) (r ∷ rows) m = last_prolonged n (risen bit pulled t) r rows
-last_next fell pulled n o rows m = last_on n o o rows (λ h. h) (λ h. h) m
-
-pub has_last : (xs : List ℕ) (n : ℕ) → HasLast (open_after xs n) (rows_after xs n)
-has_last xs zero = tt
-has_last xs (suc n) = last_next (edge_at xs n) _ n (open_after xs n) (rows_after xs n) (has_last xs n)
+reader_more xs n =
+    ap (λ o. record { sample = get_or xs n 0; opened = o }) (ap (λ e. kept_next e (option_map kept_of (open_after xs n))) (seen_at xs n) ∙ next_kept (scl_after xs n) (scl_after xs (suc n)) (sda_after xs n) (sda_after xs (suc n)) (open_after xs n))
 
 -- each START adds a record, and nothing else does
 length_last : (f : Transfer → Transfer) (rows : List Transfer) → length (with_last f rows) ≡ length rows
@@ -104,11 +75,12 @@ count_more xs n c d b e f g =
     g ∙ ap (λ m. m + bit_value b) f ∙ ap (λ s. length (rows_after xs n) + bit_value s) (sym e) ∙ sym (one_more xs n)
 
 -- a row that takes all transfers takes the next
-pub room_left : (xs : List ℕ) (n : ℕ) (a b : Row Transfer) → n < length xs → a.count + length (transfers xs) ≤ length (items_of a) → Grown a (rows_after xs n) b → starts (edge_at xs n) ≡ true → b.count < length (items_of b)
-room_left xs n a b h k g e =
+pub room_left : (xs : List ℕ) (n m : ℕ) (a b : Row Transfer) → n < length xs → a.count + length (transfers xs) ≤ length (items_of a) → Stands a m (open_after xs n) (rows_after xs n) b → starts (edge_at xs n) ≡ true → b.count < length (items_of b)
+room_left xs n m a b h k s e =
     let more : length (rows_after xs (suc n)) ≡ length (rows_after xs n) + 1 = one_more xs n ∙ ap (λ s. length (rows_after xs n) + bit_value s) e in
-    let same : length (items_of b) ≡ length (items_of a) = row_length a b (rows_after xs n) g in
-    omega (arith, more, same, rows_up xs (suc n) (length xs) (omega (arith, h)), g.count, k)
+    let many : length s.written ≡ length (rows_after xs n) = sym (length_end m (open_after xs n) (λ t. false) s.written) ∙ ap length s.reached in
+    let same : length (items_of b) ≡ length (items_of a) = row_length a b s.written s.grown in
+    omega (arith, more, many, same, rows_up xs (suc n) (length xs) (omega (arith, h)), s.grown.count, k)
 
 -- the reader's numbers are small
 few_after : (xs : List ℕ) (n : ℕ) → few n (open_after xs n)

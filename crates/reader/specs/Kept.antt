@@ -1,5 +1,5 @@
--- What the reader keeps between samples: the two wires, and of the open transfer the numbers that a record needs.
-use Rattle.std.specs.Prelude.{ℕ, ◌+◌, ◌*◌, ◌/◌, ◌^◌, ◌<◌, Bool, true, false, not, ◌&&◌, cond, List, length, Some, None, Option, ◌==◌, nat_lt, option_map}
+-- The two wires of a sample, and what the reader keeps of an open transfer: the numbers that its record needs.
+use Rattle.std.specs.Prelude.{ℕ, ◌+◌, ◌*◌, ◌/◌, ◌^◌, ◌<◌, Bool, true, false, not, ◌&&◌, ◌||◌, cond, List, length, Some, None, Option, ◌==◌, nat_lt, option_map}
 use Rattle.board.specs.Samples.{bit_value, odd}
 use Rattle.board.specs.Wires.{Edge, steady, started, stopped, rose, fell, Transfer, value, address, all_acked}
 use Rattle.reader.specs.declared.kept.Kept.{Kept}
@@ -56,6 +56,10 @@ kept_next fell o = o
 
 abbrev pub kept_address : Kept → ℕ
 kept_address k = cond (nat_lt 0 k.ninths) k.address (cond (k.bits == 8) k.value 0)
+
+-- the last rise, the eighth or the ninth of a byte, shows in the record; of the others it shows nothing
+abbrev pub rise_shows : Kept → Bool
+rise_shows k = (k.bits == 8) || (k.bits == 0)
 
 abbrev pub kept_clean : Kept → Bool
 kept_clean k = (k.bits == 1) && (nat_lt 0 k.ninths && k.acked)

@@ -1,6 +1,6 @@
 // What is kept of a transfer while it is open.
 ghost use Rattle.std.specs.Prelude.{◌≡◌};
-ghost use Rattle.reader.specs.Kept.{Small, AllSmall, edge_of, kept_new, kept_risen, kept_next, kept_address, kept_clean};
+ghost use Rattle.reader.specs.Kept.{Small, AllSmall, edge_of, kept_new, kept_risen, kept_next, kept_address, kept_clean, rise_shows};
 
 use super::wires::Edge;
 
@@ -65,6 +65,13 @@ impl Kept {
         } else {
             0
         }
+    }
+
+    // Whether the last rise shows in the record: the eighth and the ninth of a byte do.
+    pub(crate) fn rise_shows(&self) -> bool
+        ensures { result ≡ rise_shows self.now }
+    {
+        self.bits == 8 || self.bits == 0
     }
 
     // Whether a STOP would be clean now.

@@ -5,7 +5,7 @@ ghost use Rattle.rows.specs.Rows.{items_of, Grown};
 ghost use Rattle.board.specs.Answers.{takes};
 ghost use Rattle.reader.specs.Read.{readable, transfers, Exactly, counted, Read};
 
-use super::reader::Reader;
+use super::reader::{Reader, reach};
 use super::transfer::Transfer;
 use super::wires::Wires;
 use refusals::Refusal;
@@ -23,7 +23,7 @@ fn readable(recording: &[u8]) -> bool
         .fold(true, |readable, sample| readable & (*sample < 32))
 }
 
-// Each START begins a transfer. Those of 255 samples are counted in a byte, so that a machine can look at sixteen samples at once.
+// Each START begins a transfer. Those of 224 samples are counted in a byte, so that a machine can look at 16 or 32 samples at once.
 #[inline(never)]
 fn starts(recording: &[u8]) -> usize
     ensures { result ≡ length (transfers recording.now) }
@@ -32,7 +32,7 @@ fn starts(recording: &[u8]) -> usize
     let mut count = 0;
     let mut at = 0;
     while at < recording.len() {
-        let end = recording.len().min(at.saturating_add(255));
+        let end = recording.len().min(at.saturating_add(224));
         let mut few: u8 = 0;
         for n in at..end {
             let next = Wires::at(recording[n]);
@@ -57,6 +57,8 @@ fn read_all(recording: &[u8], row: &mut Row<'_, Transfer>)
     for n in 0..recording.len() {
         reader.step(n, recording[n], row);
     }
+    // A transfer that is left open ends with the last sample.
+    reach(row, recording.len().saturating_sub(1), reader.opened);
 }
 
 // The samples of a recording and the number of its transfers: before it is read it is looked through once.

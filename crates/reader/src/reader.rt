@@ -1,9 +1,10 @@
-// The reader's state between samples, and what one sample does to it and to the row.
-ghost use Rattle.std.specs.Prelude.{◌≡◌, ◌<◌, true, [], length};
-ghost use Rattle.board.specs.Wires.{edge};
+// The reader's state between samples, and what one sample does to it and to the row. The record of an open transfer stands in
+// the row and is changed in its place by each sample that shows more of it. Its last sample is written where it ends.
+ghost use Rattle.std.specs.Prelude.{◌≡◌, ◌<◌, Bool, true, [], length};
+ghost use Rattle.board.specs.Wires.{rose};
 ghost use Rattle.rows.specs.Rows.{items_of};
-ghost use Rattle.reader.specs.Kept.{AllSmall, edge_of, starts, kept_next, wires_at};
-ghost use Rattle.reader.specs.Steps.{reader_after, stepped, kept_prolonged, Changes, Begins, GoesOn, Reaches, Stopped, Grows};
+ghost use Rattle.reader.specs.Kept.{AllSmall, edge_of, starts, kept_next};
+ghost use Rattle.reader.specs.Steps.{reader_after, seen, stepped, kept_prolonged, Changes, Begins, GoesOn, Reaches, Stopped, Grows};
 ghost use Rattle.reader.specs.Reading.{opened, ended};
 
 use super::kept::{Kept, next};
@@ -13,33 +14,33 @@ use rows::row::Row;
 
 #[derive(Clone, Copy)]
 pub(crate) struct Reader {
-    pub wires: Wires,
+    pub sample: u8,
     pub opened: Option<Kept>,
 }
 
 impl Reader {
+    // Before the first sample both wires count as HIGH.
     pub(crate) fn new() -> Reader
         ensures { result ≡ reader_after [] 0 }
     {
         Reader {
-            wires: Wires::idle(),
+            sample: 3,
             opened: None,
         }
     }
 
-    // Takes sample n.
+    // Takes sample n. Of the one before no more is kept than its byte, since most samples have SCL LOW and need no more.
     pub(crate) fn step(&mut self, n: usize, sample: u8, row: &mut Row<'_, Transfer>)
         requires small { AllSmall self.old.opened }
-        requires room { starts (edge self.old.wires.scl (wires_at sample).scl self.old.wires.sda (wires_at sample).sda) ≡ true → row.old.count < length (items_of row.old) }
+        requires room { starts (seen sample self.old) ≡ true → row.old.count < length (items_of row.old) }
         ensures reader { self.new ≡ stepped sample self.old }
-        ensures row { Grows (edge self.old.wires.scl (wires_at sample).scl self.old.wires.sda (wires_at sample).sda) n self.old.opened self.new.opened row.old row.new }
+        ensures row { Grows (seen sample self.old) n self.old.opened self.new.opened row.old row.new }
         ensures lender { row.new.items.ghost_name ≡ row.old.items.ghost_name }
     {
-        let wires = Wires::at(sample);
-        let edge = self.wires.edge(wires);
+        let edge = Wires::at(self.sample).edge(Wires::at(sample));
         let opened = next(self.opened, edge);
         grow(row, n, edge, self.opened, opened);
-        *self = Reader { wires, opened };
+        *self = Reader { sample, opened };
     }
 }
 
@@ -112,18 +113,21 @@ fn end(row: &mut Row<'_, Transfer>, n: usize, clean: bool)
     }
 }
 
-// An open transfer goes on to sample n.
+// An open transfer goes on to sample n with a rise, which its record may show.
 fn go_on(row: &mut Row<'_, Transfer>, n: usize, before: Option<Kept>, after: Option<Kept>)
+    requires { (bit : Bool) × (after ≡ kept_next (rose bit) before) }
     ensures goes_on { GoesOn n before after row.old row.new }
     ensures lender { row.new.items.ghost_name ≡ row.old.items.ghost_name }
 {
     if let (Some(_), Some(kept)) = (before, after) {
-        prolong(row, n, &kept);
+        if kept.rise_shows() {
+            prolong(row, n, &kept);
+        }
     }
 }
 
-// The record of an open transfer reaches sample n, which shows no more of it.
-fn reach(row: &mut Row<'_, Transfer>, n: usize, before: Option<Kept>)
+// The record of an open transfer reaches sample n, which ends it without a STOP: it is a START, or the last sample.
+pub(crate) fn reach(row: &mut Row<'_, Transfer>, n: usize, before: Option<Kept>)
     ensures reaches { Reaches n before row.old row.new }
     ensures count { row.new.count ≡ row.old.count }
     ensures slots { length (items_of row.new) ≡ length (items_of row.old) }
@@ -165,6 +169,6 @@ fn grow(
         }
         Edge::Stop => stop(row, n, before),
         Edge::Rise { bit: _ } => go_on(row, n, before, after),
-        Edge::Steady | Edge::Fall => reach(row, n, before),
+        Edge::Steady | Edge::Fall => {}
     }
 }

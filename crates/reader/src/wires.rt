@@ -39,18 +39,18 @@ impl Wires {
         }
     }
 
-    // What lies between these levels and those of the next sample.
+    // What lies between these levels and those of the next sample. Its SCL is looked at first: where it is LOW, no more is asked.
     pub(crate) fn edge(self, next: Wires) -> Edge
         ensures { edge_of result ≡ edge self.scl next.scl self.sda next.sda }
     {
-        match (self.scl, next.scl) {
+        match (next.scl, self.scl) {
             (true, true) => match (self.sda, next.sda) {
                 (true, false) => Edge::Start,
                 (false, true) => Edge::Stop,
                 _ => Edge::Steady,
             },
-            (true, false) => Edge::Fall,
-            (false, true) => Edge::Rise { bit: next.sda },
+            (false, true) => Edge::Fall,
+            (true, false) => Edge::Rise { bit: next.sda },
             (false, false) => Edge::Steady,
         }
     }
