@@ -17,6 +17,7 @@ use Rattle.reader.specs.Steps.{HasLast, Stands, kept_prolonged, Changes, Begins,
 use Rattle.reader.specs.Reading.{opened, prolonged, ended, with_last, going_on, ending}
 use Rattle.reader.specs.Transfers.{Shows}
 use Rattle.reader.proofs.Keeping.{prolonged_all, address_kept, clean_kept}
+use Rattle.reader.proofs.Words.{with_last_more}
 
 -- rows that are not empty, by their last
 record Snoc (f : Transfer → Transfer) (r : Transfer) (rows : List Transfer) : Type 0 where
@@ -56,11 +57,6 @@ twice f g (r ∷ (s ∷ (u ∷ rows))) = ap (λ zs. r ∷ zs) (twice f g (s ∷ 
 ended_twice : (n m : ℕ) (o : Option Open) (clean : Open → Bool) (rows : List Transfer) → ending n o clean (ending m o (λ t. false) rows) ≡ ending n o clean rows
 ended_twice n m None clean rows = refl
 ended_twice n m (Some t) clean rows = twice (ended n (clean t)) (ended m false) rows
-
-last_more : (f : Transfer → Transfer) (rows : List Transfer) (r : Transfer) → with_last f (rows ++ (r ∷ [])) ≡ rows ++ (f r ∷ [])
-last_more f [] r = refl
-last_more f (s ∷ []) r = refl
-last_more f (s ∷ (u ∷ rows)) r = ap (λ zs. s ∷ zs) (last_more f (u ∷ rows) r)
 
 -- the last record shows the transfer that is open
 last_prolonged : (n : ℕ) (t : Open) (r : Transfer) (rows : List Transfer) → HasLast (Some t) (with_last (prolonged n t) (r ∷ rows))
@@ -177,7 +173,7 @@ stands_begun n before after b c d is h k t (Some u) e f start m rows s =
     record {
       written = w ++ (opened n ∷ []);
       last = last_pushed u (opened n) w (ap kept_address new ∙ address_kept u, ap (λ (k : Kept). k.ninths) new);
-      reached = last_more (ended n false) w (opened n) ∙ ap (λ zs. zs ++ (opened n ∷ [])) (sym (ended_twice n m t (λ t. false) s.written) ∙ ap (ending n t (λ t. false)) s.reached);
+      reached = with_last_more (ended n false) w (opened n) ∙ ap (λ zs. zs ++ (opened n ∷ [])) (sym (ended_twice n m t (λ t. false) s.written) ∙ ap (ending n t (λ t. false)) s.reached);
       grown = k start w (h t e start s.written s.last s.grown);
     }
 

@@ -25,7 +25,7 @@ at_old rows r i lt = get_or_append_left rows (r ∷ []) no_transfer i lt
 at_new : (rows : List Transfer) (r : Transfer) (i : ℕ) → i ≡ length rows → at (rows ++ (r ∷ [])) i ≡ r
 at_new rows r i e = get_or_at rows r [] no_transfer i (sym e)
 
-with_last_more : (f : Transfer → Transfer) (rows : List Transfer) (r : Transfer) → with_last f (rows ++ (r ∷ [])) ≡ rows ++ (f r ∷ [])
+pub with_last_more : (f : Transfer → Transfer) (rows : List Transfer) (r : Transfer) → with_last f (rows ++ (r ∷ [])) ≡ rows ++ (f r ∷ [])
 with_last_more f [] r = refl
 with_last_more f (x ∷ []) r = refl
 with_last_more f (x ∷ (y ∷ rows)) r = ap (λ z. x ∷ z) (with_last_more f (y ∷ rows) r)
