@@ -3,12 +3,13 @@ use Rattle.std.proofs.Common.{◌≡◌, ℕ, zero, suc, ◌+◌, ◌*◌, ◌/�
 use borrow.Author.Tests.{clash, ltb-false, le-ltb, ne_eqb}
 use Rattle.std.proofs.lemmas.Bool.{and_from, and_left, cond-true}
 use Rattle.std.proofs.lemmas.List.{get_or-map, length-map}
+use Rattle.std.proofs.lemmas.Option.{none-some, same_Some}
 use Rattle.part.specs.Ops.{Ops}
 use Rattle.board.specs.declared.board.Board.{Board}
 use Rattle.board.specs.declared.call.Call.TheVariants.{Sample}
 use Rattle.board.specs.Engine.{idle_bus}
 use Rattle.board.specs.Samples.{bit_value, odd}
-use Rattle.board.specs.Wires.{Edge, steady, started, stopped, rose, fell, edge, Byte, Transfer as Open, transfer, value as number, next, rising, risen, risen_by, address, reading, all_acked, acked_by, sending, some_byte, is_clean, clean}
+use Rattle.board.specs.Wires.{Edge, steady, started, stopped, rose, fell, edge, Byte, Transfer as Open, value as number, next, rising, risen, risen_by, address, reading, all_acked, acked_by, sending, some_byte, is_clean, clean}
 use Rattle.board.specs.Runs.{History, pulls, pulls_by, onward, state, history, edge_at as run_edge}
 use Rattle.board.specs.Obeys.{sda_after as sda_of}
 use Rattle.board.proofs.Running.{steps}
@@ -149,19 +150,11 @@ no_stop stopped h = absurd (h (inr refl))
 no_stop (rose bit) h = refl
 no_stop fell h = refl
 
-abbrev the : Option Open → Open
-the None = transfer [] []
-the (Some t) = t
-
-abbrev counted : Option Open → ℕ
-counted None = 0
-counted (Some t) = 1
-
 -- where one has an open transfer, so has the other
 some_of : (v o : Option Open) (u : Open) → Same v o → v ≡ Some u → (t : Open) × ((o ≡ Some t) × (u.bits ≡ t.bits) × Twins u.bytes t.bytes)
-some_of None o u s e = absurd (let z : ◌≡◌ {A = ℕ} 0 1 = ap counted e in omega arith)
+some_of None o u s e = absurd (none-some u e)
 some_of (Some v) None u s e = absurd s
-some_of (Some v) (Some t) u s e = let f = subst (λ z. (z.bits ≡ t.bits) × Twins z.bytes t.bytes) (ap the e) s in (t, (refl, f.0, f.1))
+some_of (Some v) (Some t) u s e = let f = subst (λ z. (z.bits ≡ t.bits) × Twins z.bytes t.bytes) (same_Some v u e) s in (t, (refl, f.0, f.1))
 
 -- what a record says of its STOP, by what its transfer o says
 held_at : (r p stops : Bool) (o : Option Open) (t : Open) → r ≡ p → o ≡ Some t → Judged p (stops && is_clean t) (MasterHeld t.bytes) → (r ≡ (stops && clean o)) ⊎ ((r ≡ true) × ((stops && clean o) ≡ false) × ((u : Open) × ((o ≡ Some u) × MasterHeld u.bytes)))

@@ -3,15 +3,11 @@ use Rattle.std.proofs.Common.{◌≡◌, ℕ, zero, suc, ◌<◌, ◌≤◌, Boo
 use Rattle.std.proofs.Math.Nat.{eq-or-lt_of_le}
 use Rattle.std.proofs.lemmas.Bool.{cases_lt}
 use Rattle.std.proofs.lemmas.List.{length-append, get_or_append_left, get_or_at}
-use Rattle.part.specs.Ops.{Ops}
-use Rattle.board.specs.declared.board.Board.{Board}
 use Rattle.board.specs.Wires.{Edge, steady, started, stopped, rose, fell, Transfer as Open, transfer, next, risen, is_clean}
-use Rattle.board.specs.Runs.{pulls, state, history, edge_at as run_edge}
 use Rattle.reader.specs.declared.transfer.Transfer.{Transfer}
 use Rattle.reader.specs.Read.{transfers, Exactly}
 use Rattle.reader.specs.Recording.{sda_after, edge_at, open_after}
 use Rattle.reader.specs.Transfers.{is_stop, Bounds, Shows, IsTransfer, no_transfer, at, Reads}
-use Rattle.reader.specs.Agreement.{calls, opened_at}
 use Rattle.reader.specs.Reading.{opened as new_row, prolonged, ended, with_last, grown, rows_after}
 use Rattle.reader.proofs.Unique.{unique}
 
@@ -301,21 +297,8 @@ module _ (edges : ℕ → Edge) (opens : ℕ → Option Open) where
     pub grown_reads : (n : ℕ) → Reads edges opens n (rows n)
     grown_reads n = told n (rows n) (tale n)
 
-  -- such rows
-  abbrev pub rows_by : ℕ → List Transfer
-  rows_by zero = []
-  rows_by (suc n) = grown (edges n) n (opens n) (opens (suc n)) (rows_by n)
-
 pub reads : (xs : List ℕ) (n : ℕ) → Reads (edge_at xs) (open_after xs) n (rows_after xs n)
 reads xs n = grown_reads (edge_at xs) (open_after xs) (λ j. not (sda_after xs (suc j))) (rows_after xs) refl (λ j. refl) refl (λ j. refl) n
-
--- and so for the samples of a run
-module _ {S : Type 0} (ops : Ops S) (b : Board S) (samples : ℕ → ℕ) where
-  abbrev pub run_rows : ℕ → List Transfer
-  run_rows n = rows_by (run_edge ops b (calls ops b samples)) (opened_at ops b samples) n
-
-  pub run_reads : (n : ℕ) → Reads (run_edge ops b (calls ops b samples)) (opened_at ops b samples) n (run_rows n)
-  run_reads n = grown_reads (run_edge ops b (calls ops b samples)) (opened_at ops b samples) (λ j. pulls (state ops b (calls ops b samples) j).bus.scl (history ops b (calls ops b samples) j)) run_rows refl (λ j. refl) refl (λ j. refl) n
 
 pub exactly : (xs : List ℕ) → Exactly xs (transfers xs)
 unfolding Exactly
