@@ -1,5 +1,5 @@
 // The jobs of a file, run one after another on a board.
-ghost use Rattle.std.specs.Prelude.{◌≡◌, ℕ, ◌+◌, ◌<◌, ◌≤◌, [], ◌∷◌, length};
+ghost use Rattle.std.specs.Prelude.{◌≡◌, ◌+◌, ◌<◌, ◌≤◌, [], length};
 ghost use Rattle.refusals.specs.Told.{ok, told};
 ghost use Rattle.jobfile.specs.Said.{shown_write};
 ghost use Rattle.jobfile.specs.Jobs.{said};
