@@ -23,7 +23,8 @@ seen_at xs (suc n) = refl
 
 pub reader_more : (xs : List ℕ) (n : ℕ) → stepped (get_or xs n 0) (reader_after xs n) ≡ reader_after xs (suc n)
 reader_more xs n =
-    ap (λ o. record { sample = get_or xs n 0; opened = o }) (ap (λ e. kept_next e (option_map kept_of (open_after xs n))) (seen_at xs n) ∙ next_kept (scl_after xs n) (scl_after xs (suc n)) (sda_after xs n) (sda_after xs (suc n)) (open_after xs n))
+    ap (λ o. record { sample = get_or xs n 0; opened = o }) (ap (λ e. kept_next e (option_map kept_of (open_after xs n))) (seen_at xs n)
+    ∙ next_kept (scl_after xs n) (scl_after xs (suc n)) (sda_after xs n) (sda_after xs (suc n)) (open_after xs n))
 
 -- each START adds a record, and nothing else does
 length_last : (f : Transfer → Transfer) (rows : List Transfer) → length (with_last f rows) ≡ length rows
@@ -66,7 +67,8 @@ pub rows_up : (xs : List ℕ) (n m : ℕ) → n ≤ m → length (rows_after xs 
 rows_up xs n m h = subst (λ k. length (rows_after xs n) ≤ length (rows_after xs k)) (omega (arith, h)) (more_rows xs n (m - n))
 
 -- counting them
-pub started_at : (xs : List ℕ) (n : ℕ) (v w : Wires) (e : Seen) (b : Bool) → v ≡ wires_after xs n → w ≡ wires_after xs (suc n) → edge_of e ≡ edge v.scl w.scl v.sda w.sda → b ≡ starts (edge_of e) → starts (edge_at xs n) ≡ b
+pub started_at : (xs : List ℕ) (n : ℕ) (v w : Wires) (e : Seen) (b : Bool) → v ≡ wires_after xs n → w ≡ wires_after xs (suc n)
+    → edge_of e ≡ edge v.scl w.scl v.sda w.sda → b ≡ starts (edge_of e) → starts (edge_at xs n) ≡ b
 started_at xs n v w e b h k f g =
     sym (g ∙ ap starts (f ∙ ap (λ (u : Wires). edge u.scl w.scl u.sda w.sda) h ∙ ap (λ (u : Wires). edge (scl_after xs n) u.scl (sda_after xs n) u.sda) k))
 
@@ -75,7 +77,8 @@ count_more xs n c d b e f g =
     g ∙ ap (λ m. m + bit_value b) f ∙ ap (λ s. length (rows_after xs n) + bit_value s) (sym e) ∙ sym (one_more xs n)
 
 -- a row that takes all transfers takes the next
-pub room_left : (xs : List ℕ) (n m : ℕ) (a b : Row Transfer) → n < length xs → a.count + length (transfers xs) ≤ length (items_of a) → Stands a m (open_after xs n) (rows_after xs n) b → starts (edge_at xs n) ≡ true → b.count < length (items_of b)
+pub room_left : (xs : List ℕ) (n m : ℕ) (a b : Row Transfer) → n < length xs → a.count + length (transfers xs) ≤ length (items_of a)
+    → Stands a m (open_after xs n) (rows_after xs n) b → starts (edge_at xs n) ≡ true → b.count < length (items_of b)
 room_left xs n m a b h k s e =
     let more : length (rows_after xs (suc n)) ≡ length (rows_after xs n) + 1 = one_more xs n ∙ ap (λ s. length (rows_after xs n) + bit_value s) e in
     let many : length s.written ≡ length (rows_after xs n) = sym (length_end m (open_after xs n) (λ t. false) s.written) ∙ ap length s.reached in

@@ -55,7 +55,8 @@ Same (Some u) (Some t) = (u.bits ≡ t.bits) × Twins u.bytes t.bytes
 abbrev Ninth : Bool → Bool → Option Open → Type 0
 Ninth pulled w o = (t : Open) → o ≡ Some t → 8 ≤ length t.bits → sending t.bytes ≡ true → pulled ≡ true → w ≡ false
 
-rise_by : (q : Bool) (w p : Bool) (u t : Open) → ltb (length t.bits) 8 ≡ q → u.bits ≡ t.bits → Twins u.bytes t.bytes → Ninth p w (Some t) → Same (Some (risen_by q w (not w) u)) (Some (risen_by q w p t))
+rise_by : (q : Bool) (w p : Bool) (u t : Open) → ltb (length t.bits) 8 ≡ q → u.bits ≡ t.bits → Twins u.bytes t.bytes → Ninth p w (Some t)
+    → Same (Some (risen_by q w (not w) u)) (Some (risen_by q w p t))
 rise_by true w p u t e bits bytes n = (ap (λ z. w ∷ z) bits, bytes)
 rise_by false w p u t e bits bytes n = (refl, (record { value = ap number bits; low = refl; pulled = refl; real = λ s q. ap not (n t refl (ltb-false _ 8 e) s q) }, bytes))
 
@@ -157,7 +158,8 @@ some_of (Some v) None u s e = absurd s
 some_of (Some v) (Some t) u s e = let f = subst (λ z. (z.bits ≡ t.bits) × Twins z.bytes t.bytes) (same_Some v u e) s in (t, (refl, f.0, f.1))
 
 -- what a record says of its STOP, by what its transfer o says
-held_at : (r p stops : Bool) (o : Option Open) (t : Open) → r ≡ p → o ≡ Some t → Judged p (stops && is_clean t) (MasterHeld t.bytes) → (r ≡ (stops && clean o)) ⊎ ((r ≡ true) × ((stops && clean o) ≡ false) × ((u : Open) × ((o ≡ Some u) × MasterHeld u.bytes)))
+held_at : (r p stops : Bool) (o : Option Open) (t : Open) → r ≡ p → o ≡ Some t → Judged p (stops && is_clean t) (MasterHeld t.bytes)
+    → (r ≡ (stops && clean o)) ⊎ ((r ≡ true) × ((stops && clean o) ≡ false) × ((u : Open) × ((o ≡ Some u) × MasterHeld u.bytes)))
 held_at r p stops o t e f (inl g) = inl (e ∙ g ∙ sym (ap (λ o. stops && clean o) f))
 held_at r p stops o t e f (inr g) = inr (e ∙ g.0, ap (λ o. stops && clean o) f ∙ g.1, (t, (f, g.2)))
 
@@ -171,10 +173,13 @@ low_pull : (t : Open) (answer : Bool) (byte : ℕ) → 8 ≤ length t.bits → s
 low_pull t answer byte long sends = rw (le-ltb (length t.bits) 8 long, sends) refl
 
 module _ {S : Type 0} (ops : Ops S) where
-  high_pull : (b c : Board S) (x : ℕ) (h : History) (t : Open) → ltb x 32 ≡ true → b.bus.scl ≡ false → c.bus.scl ≡ true → h.opened ≡ Some t → 8 ≤ length t.bits → sending t.bytes ≡ true → pulls true (onward ops b (Sample x) c h) ≡ h.answer
+  high_pull : (b c : Board S) (x : ℕ) (h : History) (t : Open) → ltb x 32 ≡ true → b.bus.scl ≡ false → c.bus.scl ≡ true → h.opened ≡ Some t
+      → 8 ≤ length t.bits → sending t.bytes ≡ true → pulls true (onward ops b (Sample x) c h) ≡ h.answer
   high_pull b c x h t ok before after is long sends = rw (ok, before, after, is, ne_eqb (length t.bits) 7 (λ z. omega (arith, long, z)), le-ltb (length t.bits) 8 long) (rw sends refl)
 
-  ninth : (b c : Board S) (x : ℕ) (h : History) → (ltb x 32 ≡ false → c ≡ b) → c.bus.sda ≡ sda_of b.bus.sda (Sample x) (pulls c.bus.scl (onward ops b (Sample x) c h)) → b.bus.scl ≡ false → c.bus.scl ≡ true → Ninth (pulls b.bus.scl h) c.bus.sda h.opened
+  ninth : (b c : Board S) (x : ℕ) (h : History) → (ltb x 32 ≡ false → c ≡ b)
+      → c.bus.sda ≡ sda_of b.bus.sda (Sample x) (pulls c.bus.scl (onward ops b (Sample x) c h)) → b.bus.scl ≡ false → c.bus.scl ≡ true
+      → Ninth (pulls b.bus.scl h) c.bus.sda h.opened
   ninth b c x h refused sda before after t is long sends pull = by (ltb x 32) refl
     where
       by : (q : Bool) → ltb x 32 ≡ q → c.bus.sda ≡ false
@@ -215,8 +220,10 @@ module _ {S : Type 0} (ops : Ops S) where
     open_same (suc j) h =
         let was = open_same j (omega arith) in
         let s = steps ops b (calls ops b samples) (ap (λ z. z.phase) idle) j in
-        let goes = next_same (B j).bus.scl (B (suc j)).bus.scl (B j).bus.sda (B (suc j)).bus.sda (pulls (B j).bus.scl (H j)) (open_after xs j) (O j) was (λ before after. ninth (B j) (B (suc j)) (samples j) (H j) s.refused s.sda before after) in
-        subst (λ z. Same (next z (not (sda_after xs (suc j))) (open_after xs j)) (O (suc j))) (sym (edge_alike j h)) (subst (λ z. Same (next (E j) (not z) (open_after xs j)) (O (suc j))) (sym (sda_same (suc j) h)) goes)
+        let goes = next_same (B j).bus.scl (B (suc j)).bus.scl (B j).bus.sda (B (suc j)).bus.sda (pulls (B j).bus.scl (H j)) (open_after xs j) (O j) was
+        (λ before after. ninth (B j) (B (suc j)) (samples j) (H j) s.refused s.sda before after) in
+        subst (λ z. Same (next z (not (sda_after xs (suc j))) (open_after xs j)) (O (suc j))) (sym (edge_alike j h))
+        (subst (λ z. Same (next (E j) (not z) (open_after xs j)) (O (suc j))) (sym (sda_same (suc j) h)) goes)
 
     -- the record of the run beside one of the recording
     abbrev own : Row → Row

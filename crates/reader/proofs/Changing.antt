@@ -40,11 +40,13 @@ pub grown_some : (a b : Row Transfer) (r : Transfer) (rows : List Transfer) → 
 grown_some a b r rows g e = none-some _ (sym e ∙ last_is a b (λ r. r) r rows (snoc (λ r. r) r rows) g)
 
 -- what replacing it makes
-pub changed : (f : Transfer → Transfer) (b c : Row Transfer) (last : Transfer) → Some last ≡ slice_get (row_of b) (b.count - 1) → c.count ≡ b.count → items_of c ≡ cond (holds_none b) (items_of b) (set (items_of b) (b.count - 1) (f last)) → Changes f b c
+pub changed : (f : Transfer → Transfer) (b c : Row Transfer) (last : Transfer) → Some last ≡ slice_get (row_of b) (b.count - 1) → c.count ≡ b.count
+    → items_of c ≡ cond (holds_none b) (items_of b) (set (items_of b) (b.count - 1) (f last)) → Changes f b c
 changed f b c last l n i a r rows g =
     let s = snoc f r rows in
     let same : last ≡ s.y = same_Some _ _ (l ∙ last_is a b f r rows s g) in
-    let j : items_of c ≡ cond (holds_none b) (items_of b) (set (items_of b) (b.count - 1) (f s.y)) = subst (λ y. items_of c ≡ cond (holds_none b) (items_of b) (set (items_of b) (b.count - 1) (f y))) same i in
+    let j : items_of c ≡ cond (holds_none b) (items_of b) (set (items_of b) (b.count - 1) (f s.y)) =
+    subst (λ y. items_of c ≡ cond (holds_none b) (items_of b) (set (items_of b) (b.count - 1) (f y))) same i in
     subst (λ zs. Grown a zs c) (sym s.changed) (grown_other a b c s.ys s.y (f s.y) (subst (λ zs. Grown a zs b) s.all g) n j)
 
 -- a record that is changed twice
@@ -87,13 +89,15 @@ shown n t [] h = absurd h
 shown n t (r ∷ []) h = λ i. record { first = r.first; last = n; address = h.0 i; ninths = h.1 i; clean = false } ∷ []
 shown n t (r ∷ (s ∷ rows)) h = ap (λ zs. r ∷ zs) (shown n t (s ∷ rows) h)
 
-stands_on : (n m : ℕ) (t u : Open) (start : Row Transfer) (rows : List Transfer) (b : Row Transfer) → Alike (kept_of t) (kept_of u) → Stands start m (Some t) rows b → Stands start n (Some u) (with_last (prolonged n u) rows) b
+stands_on : (n m : ℕ) (t u : Open) (start : Row Transfer) (rows : List Transfer) (b : Row Transfer) → Alike (kept_of t) (kept_of u)
+    → Stands start m (Some t) rows b → Stands start n (Some u) (with_last (prolonged n u) rows) b
 stands_on n m t u start rows b a s =
     let last = last_alike t u s.written a s.last in
     record { written = s.written; last = last; reached = shown n u s.written last ∙ sym (twice (prolonged n u) (ended m false) s.written) ∙ ap (with_last (prolonged n u)) s.reached; grown = s.grown }
 
 -- what an open transfer's record becomes: where what it shows changes, it is changed
-prolonged_on : (n m : ℕ) (t u : Open) (start : Row Transfer) (rows : List Transfer) (b c : Row Transfer) → Changes (prolonged n u) b c → Stands start m (Some t) rows b → Stands start n (Some u) (with_last (prolonged n u) rows) c
+prolonged_on : (n m : ℕ) (t u : Open) (start : Row Transfer) (rows : List Transfer) (b c : Row Transfer) → Changes (prolonged n u) b c
+    → Stands start m (Some t) rows b → Stands start n (Some u) (with_last (prolonged n u) rows) c
 prolonged_on n m t u start rows b c h s = by s.written s.last s.reached s.grown
   where
     by : (w : List Transfer) → HasLast (Some t) w → with_last (ended m false) w ≡ rows → Grown start w b → Stands start n (Some u) (with_last (prolonged n u) rows) c
@@ -145,7 +149,8 @@ risen_alike : (small bit : Bool) (k : Kept) → nat_lt k.bits 8 ≡ small → ri
 risen_alike true bit k lt e = (rw (ne_eqb k.bits 8 (λ z. omega (arith, z, ltb-true _ 8 lt)), neither (nat_eq (k.bits + 1) 8) (nat_eq (k.bits + 1) 0) e) refl, refl)
 risen_alike false bit k lt e = absurd (clash (sym e))
 
-pub unshown : (n : ℕ) (before after : Option Kept) (k l : Kept) (b : Row Transfer) (bit : Bool) → after ≡ kept_next (rose bit) before → before ≡ Some k → after ≡ Some l → rise_shows l ≡ false → GoesOn n before after b b
+pub unshown : (n : ℕ) (before after : Option Kept) (k l : Kept) (b : Row Transfer) (bit : Bool) → after ≡ kept_next (rose bit) before
+    → before ≡ Some k → after ≡ Some l → rise_shows l ≡ false → GoesOn n before after b b
 unshown n before after k l b bit f i j e =
     let is : l ≡ kept_risen bit k = same_Some _ _ (sym j ∙ f ∙ ap (kept_next (rose bit)) i) in
     let alike : Alike k l = subst (Alike k) (sym is) (risen_alike (nat_lt k.bits 8) bit k refl (ap rise_shows (sym is) ∙ e)) in
@@ -161,7 +166,12 @@ stopped_by n before k b c i h (Some t) e start (r ∷ rows) m g =
 
 pub stands_stopped : (n : ℕ) (before after : Option Kept) (b c : Row Transfer) → after ≡ None → Stopped n before b c → Grows stopped n before after b c
 stands_stopped n before after b c closed h t None e f start m rows s =
-    record { written = ending n t is_clean s.written; last = tt; reached = sym (ended_twice n m t is_clean s.written) ∙ ap (ending n t is_clean) s.reached; grown = h t e start s.written s.last s.grown }
+    record {
+      written = ending n t is_clean s.written;
+      last = tt;
+      reached = sym (ended_twice n m t is_clean s.written) ∙ ap (ending n t is_clean) s.reached;
+      grown = h t e start s.written s.last s.grown;
+    }
 stands_stopped n before after b c closed h t (Some u) e f start m rows s = absurd (none-some _ (sym closed ∙ f))
 
 -- a START
@@ -178,5 +188,6 @@ stands_begun n before after b c d is h k t (Some u) e f start m rows s =
     }
 
 -- the last sample of all
-pub stands_ended : (n m : ℕ) (before : Option Kept) (b c : Row Transfer) (o : Option Open) (start : Row Transfer) (rows : List Transfer) → m ≡ n → before ≡ option_map kept_of o → Reaches m before b c → Stands start n o rows b → Grown start rows c
+pub stands_ended : (n m : ℕ) (before : Option Kept) (b c : Row Transfer) (o : Option Open) (start : Row Transfer) (rows : List Transfer) → m ≡ n
+    → before ≡ option_map kept_of o → Reaches m before b c → Stands start n o rows b → Grown start rows c
 stands_ended n m before b c o start rows e i h s = subst (λ zs. Grown start zs c) (ap (λ k. ending k o (λ t. false) s.written) e ∙ s.reached) (h o i start s.written s.last s.grown)

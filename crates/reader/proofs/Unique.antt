@@ -87,7 +87,8 @@ module _ (edges : ℕ → Edge) (opens : ℕ → Option Open) (n : ℕ) where
   ]
 
   -- where all before place m have the same firsts, the one at m begins no later
-  no_later : (a b : List Transfer) → Reads edges opens n a → Reads edges opens n b → (m : ℕ) → ((k : ℕ) → k < m → (at a k).first ≡ (at b k).first) → m < length a → m < length b → (at b m).first ≤ (at a m).first
+  no_later : (a b : List Transfer) → Reads edges opens n a → Reads edges opens n b → (m : ℕ) → ((k : ℕ) → k < m → (at a k).first ≡ (at b k).first)
+      → m < length a → m < length b → (at b m).first ≤ (at a m).first
   no_later a b p q m before ha hb =
       let r = p.each m ha in
       let f = q.all (at a m).first (let o = r.order in let w = r.within in omega arith) r.starts in

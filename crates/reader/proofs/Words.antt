@@ -88,6 +88,13 @@ module _ (edges : ℕ → Edge) (opens : ℕ → Option Open) where
     rising : Rising rows
     all : (j : ℕ) → j < m → edges j ≡ started → Found rows j
 
+  kept_none : Kept zero zero []
+  kept_none = record {
+    each = λ i lt. absurd (omega (arith, lt));
+    rising = λ i lt. absurd (omega (arith, lt));
+    all = λ j lt s. absurd (omega (arith, lt));
+  }
+
   kept_later : (m k l : ℕ) (rows : List Transfer) → k ≤ l → Kept m k rows → Kept m l rows
   kept_later m k l rows le h = record {
     each = λ i lt. (let e = h.each i lt in (e.0, omega (arith, le, e.1)));
@@ -117,7 +124,8 @@ module _ (edges : ℕ → Edge) (opens : ℕ → Option Open) where
   abbrev Tale : ℕ → List Transfer → Type 0
   Tale n rows = Quiet n rows ⊎ Under n rows
 
-  kept_more : (m k : ℕ) (rows : List Transfer) (r : Transfer) → Kept r.first (suc r.first) rows → Past r → r.last < k → ((j : ℕ) → r.first < j → j < m → edges j ≡ started → ⊥) → Kept m k (rows ++ (r ∷ []))
+  kept_more : (m k : ℕ) (rows : List Transfer) (r : Transfer) → Kept r.first (suc r.first) rows → Past r → r.last < k
+      → ((j : ℕ) → r.first < j → j < m → edges j ≡ started → ⊥) → Kept m k (rows ++ (r ∷ []))
   kept_more m k rows r h p within rest = record {
     each = each_more (λ x. Past x × (x.last < k)) rows r (λ i lt. (let e = h.each i lt in let later = p.later in (e.0, omega (arith, e.1, within, later)))) (p, within);
     rising = rising_more rows r h.rising (λ i lt. (let e = h.each i lt in let later = e.0.later in omega (arith, e.1, later)));
@@ -229,7 +237,8 @@ module _ (edges : ℕ → Edge) (opens : ℕ → Option Open) where
       let k = kept_under (suc n) n rows c h p (omega arith) (λ s. absurd (stop_start _ e s)) in
       record { none = o; kept = subst (Kept (suc n) (suc n)) (sym (with_last_under n rows (ended n c) h)) k }
 
-  under_step : (n : ℕ) (rows : List Transfer) (e : Edge) (pulled : Bool) (t : Open) (h : Under n rows) → t ≡ h.t → edges n ≡ e → opens (suc n) ≡ next e pulled (Some t) → Tale (suc n) (grown e n (Some t) (opens (suc n)) rows)
+  under_step : (n : ℕ) (rows : List Transfer) (e : Edge) (pulled : Bool) (t : Open) (h : Under n rows) → t ≡ h.t → edges n ≡ e
+      → opens (suc n) ≡ next e pulled (Some t) → Tale (suc n) (grown e n (Some t) (opens (suc n)) rows)
   under_step n rows steady pulled t h same e o = rw o (inr (calm_under n rows t (unbound _ (ap tag e)) o h))
   under_step n rows started pulled t h same e o = inr (started_under n rows e o h)
   under_step n rows stopped pulled t h same e o = inl (stopped_under n rows (is_clean t) h e o (ap is_clean same))
@@ -291,7 +300,7 @@ module _ (edges : ℕ → Edge) (opens : ℕ → Option Open) where
   module _ (pulled : ℕ → Bool) (rows : ℕ → List Transfer) (from : opens zero ≡ None) (onward : (n : ℕ) → opens (suc n) ≡ next (edges n) (pulled n) (opens n)) (first : rows zero ≡ [])
       (grows : (n : ℕ) → rows (suc n) ≡ grown (edges n) n (opens n) (opens (suc n)) (rows n)) where
     tale : (n : ℕ) → Tale n (rows n)
-    tale zero = inl (record { none = from; kept = rw first (record { each = λ i lt. absurd (omega (arith, lt)); rising = λ i lt. absurd (omega (arith, lt)); all = λ j lt s. absurd (omega (arith, lt)) }) })
+    tale zero = inl (record { none = from; kept = rw first kept_none })
     tale (suc n) = subst (Tale (suc n)) (sym (grows n)) (step n (rows n) (pulled n) (onward n) (tale n))
 
     pub grown_reads : (n : ℕ) → Reads edges opens n (rows n)

@@ -65,7 +65,8 @@ module _ (n : ℕ) (before : Option Kept) (old new : Row Transfer) where
 module _ (n : ℕ) (before after : Option Kept) (old new : Row Transfer) where
   -- a row that stands for the records after some sample stands after sample n for what becomes of them
   abbrev pub Turns : (Option Open → Option Open → List Transfer → List Transfer) → Type 0
-  Turns by = (t u : Option Open) → before ≡ option_map kept_of t → after ≡ option_map kept_of u → (start : Row Transfer) (m : ℕ) (rows : List Transfer) → Stands start m t rows old → Stands start n u (by t u rows) new
+  Turns by = (t u : Option Open) → before ≡ option_map kept_of t → after ≡ option_map kept_of u
+      → (start : Row Transfer) (m : ℕ) (rows : List Transfer) → Stands start m t rows old → Stands start n u (by t u rows) new
 
   abbrev pub GoesOn : Type 0
   GoesOn = Turns (going_on n)

@@ -22,9 +22,11 @@ loop-n-preserved c =
     let xs = c.args.recording.now in
     let n = c.loop-n.n in
     let reader : c.step.new.self ≡ reader_after xs (suc n) = c.step.ensures.reader ∙ ap (stepped (get_or xs n 0)) c.loop-n.invariant.0 ∙ reader_more xs n in
-    let row = c.step.ensures.row (open_after xs n) (open_after xs (suc n)) (ap (λ (r : Reader). r.opened) c.loop-n.invariant.0) (ap (λ (r : Reader). r.opened) reader) c.args.row.now (n - 1) (rows_after xs n) c.loop-n.invariant.1 in
+    let row = c.step.ensures.row (open_after xs n) (open_after xs (suc n)) (ap (λ (r : Reader). r.opened) c.loop-n.invariant.0)
+    (ap (λ (r : Reader). r.opened) reader) c.args.row.now (n - 1) (rows_after xs n) c.loop-n.invariant.1 in
     let rows : Stands c.args.row.now n (open_after xs (suc n)) (rows_after xs (suc n)) c.step.new.row =
-    subst (λ e. Stands c.args.row.now n (open_after xs (suc n)) (grown e n (open_after xs n) (open_after xs (suc n)) (rows_after xs n)) c.step.new.row) (ap (seen (get_or xs n 0)) c.loop-n.invariant.0 ∙ seen_at xs n) row in
+    subst (λ e. Stands c.args.row.now n (open_after xs (suc n)) (grown e n (open_after xs n) (open_after xs (suc n)) (rows_after xs n)) c.step.new.row)
+    (ap (seen (get_or xs n 0)) c.loop-n.invariant.0 ∙ seen_at xs n) row in
     let last : n ≡ suc n - 1 = omega arith in
     rw add-one (reader, subst (λ k. Stands c.args.row.now k (open_after xs (suc n)) (rows_after xs (suc n)) c.step.new.row) last rows, c.step.ensures.lender ∙ c.loop-n.invariant.2)
 
@@ -34,4 +36,5 @@ returns-clause-grown c =
     let all : c.loop-n.n ≡ length xs = omega (arith, c.loop-n-test.false, c.loop-n.auto.n-end) in
     let stands = subst (λ k. Stands c.args.row.now (k - 1) (open_after xs k) (rows_after xs k) c.loop-n.row) all c.loop-n.invariant.1 in
     let opened = ap (λ (r : Reader). r.opened) (c.loop-n.invariant.0 ∙ ap (reader_after xs) all) in
-    stands_ended (length xs - 1) c.saturating_sub.result c.loop-n.reader.opened c.loop-n.row c.reach.new.row (open_after xs (length xs)) c.args.row.now (rows_after xs (length xs)) c.saturating_sub.ensures opened c.reach.ensures.reaches stands
+    stands_ended (length xs - 1) c.saturating_sub.result c.loop-n.reader.opened c.loop-n.row c.reach.new.row
+    (open_after xs (length xs)) c.args.row.now (rows_after xs (length xs)) c.saturating_sub.ensures opened c.reach.ensures.reaches stands

@@ -19,5 +19,10 @@ more (y ∷ xs) x = by_first (nat_lt y 32) (more xs x)
 
 pub returns : goal.returns
 returns c = subst (λ l. c.fold.result ≡ readable l) c.iter.ensures.rest
-    (fold_over fronts (λ y. y.now) _ (λ ys b. b ≡ readable ys) _ (λ ys a x b f' j k. (let is : b ≡ (a && nat_lt x.now 32) = search rules in is ∙ ap (λ so. so && nat_lt x.now 32) j ∙ more ys x.now, search rules))
+    (fold_over fronts (λ y. y.now) _ (λ ys b. b ≡ readable ys) _
+    (λ ys a x b f' j k. (
+      let is : b ≡ (a && nat_lt x.now 32) = search rules in
+          is ∙ ap (λ so. so && nat_lt x.now 32) j ∙ more ys x.now,
+      search rules,
+    ))
     _ _ _ _ (slice_gives c.iter.result) refl c.fold.ensures.ran)

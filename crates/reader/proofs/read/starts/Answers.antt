@@ -21,22 +21,40 @@ loop-n-preserved c =
     let n = c.loop-n.n in
     let so = c.loop-at.count + c.loop-n.few in
     let now = c.loop-at.count + c.if-is_start.few in
-    let started : (b : Bool) → b ≡ starts (edge_of c.edge.result) → starts (edge_at xs n) ≡ b = λ b e. started_at xs n c.loop-n.wires c.at-next.result c.edge.result b c.loop-n.invariant.0 c.at-next.ensures c.edge.ensures e in
+    let started : (b : Bool) → b ≡ starts (edge_of c.edge.result) → starts (edge_at xs n) ≡ b =
+    λ b e. started_at xs n c.loop-n.wires c.at-next.result c.edge.result b c.loop-n.invariant.0 c.at-next.ensures c.edge.ensures e in
     let counted : (now ≡ length (rows_after xs (suc n))) × (c.loop-at.at + c.if-is_start.few ≤ suc n) =
     elim c.if-is_start.branch [
-      | then-is_start w ↦ (count_more xs n so now true (started true (sym w.if-is_start.true ∙ c.is_start.ensures)) c.loop-n.invariant.1 (omega (arith, w.few-is)), omega (arith, w.few-is, c.loop-n.invariant.2))
-      | else-is_start w ↦ (count_more xs n so now false (started false (sym w.if-is_start.false ∙ c.is_start.ensures)) c.loop-n.invariant.1 (omega (arith, w.few-is)), omega (arith, w.few-is, c.loop-n.invariant.2))
+      | then-is_start w ↦ (
+        count_more xs n so now true (started true (sym w.if-is_start.true ∙ c.is_start.ensures)) c.loop-n.invariant.1 (omega (arith, w.few-is)),
+        omega (arith, w.few-is, c.loop-n.invariant.2),
+      )
+      | else-is_start w ↦ (
+        count_more xs n so now false (started false (sym w.if-is_start.false ∙ c.is_start.ensures)) c.loop-n.invariant.1 (omega (arith, w.few-is)),
+        omega (arith, w.few-is, c.loop-n.invariant.2),
+      )
     ] in
     rw add-one (c.at-next.ensures, counted.0, counted.1)
 
 pub overflow_add-count : goal.overflow_add-count
-overflow_add-count c = omega (arith, c.from-count.ensures, c.loop-n.invariant.1, few_rows c.args.recording.now c.loop-n.n, c.loop-n.auto.n-end (omega (arith, c.min-end.ensures, c.saturating_add.ensures, c.loop-at-test.true)), c.min-end.ensures, c.min-end.type_inv)
+overflow_add-count c = omega (
+  arith,
+  c.from-count.ensures,
+  c.loop-n.invariant.1,
+  few_rows c.args.recording.now c.loop-n.n,
+  c.loop-n.auto.n-end (omega (arith, c.min-end.ensures, c.saturating_add.ensures, c.loop-at-test.true)),
+  c.min-end.ensures,
+  c.min-end.type_inv,
+)
 
 pub loop-at-preserved : goal.loop-at-preserved
 loop-at-preserved c =
     let all : c.loop-n.n ≡ c.min-end.result = omega (arith, c.loop-n-test.false, c.loop-n.auto.n-end (omega (arith, c.min-end.ensures, c.saturating_add.ensures, c.loop-at-test.true))) in
-    let counted = ap (λ few. c.loop-at.count + few) c.from-count.ensures ∙ c.loop-n.invariant.1 in
-    (subst (λ n. c.loop-n.wires ≡ wires_after c.args.recording.now n) all c.loop-n.invariant.0, subst (λ n. c.loop-at.count + c.from-count.result ≡ length (rows_after c.args.recording.now n)) all counted, omega (arith, c.min-end.ensures))
+    let counted = ap (λ few. c.loop-at.count + few) c.from-count.ensures ∙ c.loop-n.invariant.1 in (
+      subst (λ n. c.loop-n.wires ≡ wires_after c.args.recording.now n) all c.loop-n.invariant.0,
+      subst (λ n. c.loop-at.count + c.from-count.result ≡ length (rows_after c.args.recording.now n)) all counted,
+      omega (arith, c.min-end.ensures),
+    )
 
 pub returns : goal.returns
 returns c =

@@ -3,7 +3,8 @@ use Rattle.reader.proofs.reader.grow.Goals as goal
 
 pub returns-in-Start-clause-row : goal.returns-in-Start-clause-row
 returns-in-Start-clause-row c =
-    rw c.in-Start.is (stands_begun c.args.n c.args.before c.args.after c.args.row.now c.reach.new.row c.begin.new.row (rw c.in-Start.is at c.requires.after) c.reach.ensures.reaches c.begin.ensures.begins)
+    rw c.in-Start.is (stands_begun c.args.n c.args.before c.args.after c.args.row.now c.reach.new.row c.begin.new.row
+    (rw c.in-Start.is at c.requires.after) c.reach.ensures.reaches c.begin.ensures.begins)
 
 pub returns-in-Stop-clause-row : goal.returns-in-Stop-clause-row
 returns-in-Stop-clause-row c =

@@ -5,7 +5,8 @@ use Rattle.reader.proofs.reader.prolong.Goals as goal
 
 pub returns-in-Some-clause-changes : goal.returns-in-Some-clause-changes
 returns-in-Some-clause-changes c =
-    changed (kept_prolonged c.args.n c.args.kept.now) c.args.row.now c.replace_last.new.self c.in-Some.field-0.now c.in-Some.ensures c.replace_last.ensures.count (rw c.prolonged.ensures at c.replace_last.ensures.items)
+    changed (kept_prolonged c.args.n c.args.kept.now) c.args.row.now c.replace_last.new.self c.in-Some.field-0.now c.in-Some.ensures
+    c.replace_last.ensures.count (rw c.prolonged.ensures at c.replace_last.ensures.items)
 
 pub returns-in_default-clause-changes : goal.returns-in_default-clause-changes
 returns-in_default-clause-changes c start r rows grown = absurd (grown_some start c.args.row.now r rows grown (sym (rw c.in_default.is at c.last.ensures)))
