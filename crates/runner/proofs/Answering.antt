@@ -32,7 +32,8 @@ module _ {S : Type 0} where
   same_into z z' b before after t e h = subst (λ y. Into y b before after t) e h
 
 -- a job that answers one byte leaves it in the list
-pub one_byte : {S : Type 0} (z : Board S × Told (List ℕ)) (b : Board S) (x : ℕ) (before after : Row ℕ) → z ≡ (b, ok (x ∷ [])) → Grown before (x ∷ []) after → Into z b before after (ok tt) × Lasts 1 z.1
+pub one_byte : {S : Type 0} (z : Board S × Told (List ℕ)) (b : Board S) (x : ℕ) (before after : Row ℕ) → z ≡ (b, ok (x ∷ []))
+    → Grown before (x ∷ []) after → Into z b before after (ok tt) × Lasts 1 z.1
 one_byte z b x before after e h =
     (subst (λ y. Into y b before after (ok tt)) (sym e) (record { board_is = refl; row_is = h; answer_is = refl }), subst (λ y. Lasts 1 y.1) (sym e) refl)
 
@@ -45,7 +46,8 @@ no_bytes_told (Ok x) = refl
 no_bytes_told (Err x) = refl
 
 -- a call of the board by its contract
-pub called : {S : Type 0} (b b' : Board S) (t : Told (Unit {0})) (r : Result (Unit {0}) Refusal) → b' ≡ b → told (λ x. x) r ≡ t → ◌≡◌ {A = Board S × Told (List ℕ)} (b, no_bytes t) (b', told (λ _. []) r)
+pub called : {S : Type 0} (b b' : Board S) (t : Told (Unit {0})) (r : Result (Unit {0}) Refusal) → b' ≡ b → told (λ x. x) r ≡ t
+    → ◌≡◌ {A = Board S × Told (List ℕ)} (b, no_bytes t) (b', told (λ _. []) r)
 called b b' t r p q = λ i. (sym p i, (ap no_bytes (sym q) ∙ no_bytes_told r) i)
 
 module _ {S : Type 0} (ops : Ops S) where
@@ -58,6 +60,7 @@ module _ {S : Type 0} (ops : Ops S) where
   pub enough_samples : (xs : List ℕ) (room : ℕ) (b : Board S) → length xs ≤ room → run ops (sampling xs room) b ≡ run ops (sampling xs (length xs)) b
   enough_samples xs room b h = by_test (all_samples xs)
     where
-      by_test : (t : Bool) → run ops (cond t (with_room (length xs) room (giving xs [])) (ended (refused 1 0))) b ≡ run ops (cond t (with_room (length xs) (length xs) (giving xs [])) (ended (refused 1 0))) b
+      by_test : (t : Bool) → run ops (cond t (with_room (length xs) room (giving xs [])) (ended (refused 1 0))) b
+          ≡ run ops (cond t (with_room (length xs) (length xs) (giving xs [])) (ended (refused 1 0))) b
       by_test true = enough_room (length xs) room (giving xs []) b h
       by_test false = refl

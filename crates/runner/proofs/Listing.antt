@@ -21,5 +21,6 @@ grown_bytes before after (ok xs) h = h
 grown_bytes before after (refused r p) h = subst (Grown before []) (sym h) (grown_none before)
 
 -- an append where there is room
-pub one_more : {A : Type 0} (a c : Row A) (x : A) → a.count < length (items_of a) → c.count ≡ cond (roomy a) (a.count + 1) a.count → items_of c ≡ cond (roomy a) (set (items_of a) a.count x) (items_of a) → Grown a (x ∷ []) c
+pub one_more : {A : Type 0} (a c : Row A) (x : A) → a.count < length (items_of a) → c.count ≡ cond (roomy a) (a.count + 1) a.count
+    → items_of c ≡ cond (roomy a) (set (items_of a) a.count x) (items_of a) → Grown a (x ∷ []) c
 one_more a c x h n i = grown_more a a c [] x (grown_none a) (lt-ltb _ _ h) n i

@@ -19,9 +19,17 @@ use Rattle.runner.specs.Runs.{file_job_run, ran, bytes_of, all_bytes, Within}
 listed_push : (n from : ℕ) (ts : List (Told (List ℕ))) (t : Told (List ℕ)) → listed n from (ts ++ (t ∷ [])) ≡ listed n from ts ++ ((n + length ts, seen_at (from + length (all_bytes ts)) t) ∷ [])
 listed_push n from [] t = ap (λ m. (m, seen_at from t) ∷ []) (sym (add-zero n)) ∙ ap (λ p. (n + 0, seen_at p t) ∷ []) (sym (add-zero from))
 listed_push n from (ok xs ∷ ts) t =
-    ap (λ r. (n, seen_at from (ok xs)) ∷ r) (listed_push (n + 1) (from + length xs) ts t ∙ ap (λ m. listed (n + 1) (from + length xs) ts ++ ((m, seen_at (from + length xs + length (all_bytes ts)) t) ∷ [])) (let e : n + 1 + length ts ≡ n + suc (length ts) = omega arith in e) ∙ ap (λ p. listed (n + 1) (from + length xs) ts ++ ((n + suc (length ts), seen_at p t) ∷ [])) (let e : from + length xs + length (all_bytes ts) ≡ from + length (xs ++ all_bytes ts) = omega (arith, length-append xs (all_bytes ts)) in e))
+    let number : n + 1 + length ts ≡ n + suc (length ts) = omega arith in
+    let place : from + length xs + length (all_bytes ts) ≡ from + length (xs ++ all_bytes ts) = omega (arith, length-append xs (all_bytes ts)) in
+    ap (λ r. (n, seen_at from (ok xs)) ∷ r) (
+    listed_push (n + 1) (from + length xs) ts t
+    ∙ ap (λ m. listed (n + 1) (from + length xs) ts ++ ((m, seen_at (from + length xs + length (all_bytes ts)) t) ∷ [])) number
+    ∙ ap (λ p. listed (n + 1) (from + length xs) ts ++ ((n + suc (length ts), seen_at p t) ∷ [])) place)
 listed_push n from (refused r p ∷ ts) t =
-    ap (λ s. (n, seen_at from (refused r p)) ∷ s) (listed_push (n + 1) from ts t ∙ ap (λ m. listed (n + 1) from ts ++ ((m, seen_at (from + length (all_bytes ts)) t) ∷ [])) (let e : n + 1 + length ts ≡ n + suc (length ts) = omega arith in e))
+    let number : n + 1 + length ts ≡ n + suc (length ts) = omega arith in
+    ap (λ s. (n, seen_at from (refused r p)) ∷ s) (
+    listed_push (n + 1) from ts t
+    ∙ ap (λ m. listed (n + 1) from ts ++ ((m, seen_at (from + length (all_bytes ts)) t) ∷ [])) number)
 
 all_bytes_push : (ts : List (Told (List ℕ))) (t : Told (List ℕ)) → all_bytes (ts ++ (t ∷ [])) ≡ all_bytes ts ++ bytes_of t
 all_bytes_push [] t = append-nil (bytes_of t)
@@ -43,7 +51,8 @@ module _ {S : Type 0} (ops : Ops S) (l : Levels) (jobs : List FileJob) (b₀ : B
     pub bytes_room : bytes₀.count + (length (all_bytes answers) + all_answers left) ≤ length (items_of bytes₀)
 
   -- at the start
-  pub so_far_none : (number : ℕ) (left : List FileJob) → number ≡ 0 → left ≡ jobs → results₀.count + length jobs ≤ length (items_of results₀) → bytes₀.count + all_answers jobs ≤ length (items_of bytes₀) → SoFar number left b₀ results₀ bytes₀
+  pub so_far_none : (number : ℕ) (left : List FileJob) → number ≡ 0 → left ≡ jobs → results₀.count + length jobs ≤ length (items_of results₀)
+      → bytes₀.count + all_answers jobs ≤ length (items_of bytes₀) → SoFar number left b₀ results₀ bytes₀
   so_far_none number left none e h k =
       record {
         answers = [];
@@ -94,13 +103,20 @@ module _ {S : Type 0} (ops : Ops S) (l : Levels) (jobs : List FileJob) (b₀ : B
             let xs : List JobResult = s.filed.listed_as.0 in
             let n : number + 1 ≡ 1 + length s.answers = omega (arith, s.count) in
             let from : bytes.count ≡ bytes₀.count + length (all_bytes s.answers) = s.filed.bytes_as.count in
-            let put : shown x ≡ (1 + length s.answers, seen_at (bytes₀.count + length (all_bytes s.answers)) answer) = e ∙ ap (λ m. (m, seen_at bytes.count answer)) n ∙ ap (λ p. (1 + length s.answers, seen_at p answer)) from in
+            let put : shown x ≡ (1 + length s.answers, seen_at (bytes₀.count + length (all_bytes s.answers)) answer) =
+            e ∙ ap (λ m. (m, seen_at bytes.count answer)) n ∙ ap (λ p. (1 + length s.answers, seen_at p answer)) from in
+            let list =
+            map-append shown xs (x ∷ [])
+            ∙ ap (λ ys. ys ++ (shown x ∷ [])) s.filed.listed_as.2
+            ∙ ap (λ y. listed 1 bytes₀.count s.answers ++ (y ∷ [])) put
+            ∙ sym (listed_push 1 bytes₀.count s.answers answer) in
             record {
-              listed_as = (xs ++ (x ∷ []), grown_then results₀ results results' xs (x ∷ []) s.filed.listed_as.1 grown, map-append shown xs (x ∷ []) ∙ ap (λ ys. ys ++ (shown x ∷ [])) s.filed.listed_as.2 ∙ ap (λ y. listed 1 bytes₀.count s.answers ++ (y ∷ [])) put ∙ sym (listed_push 1 bytes₀.count s.answers answer));
+              listed_as = (xs ++ (x ∷ []), grown_then results₀ results results' xs (x ∷ []) s.filed.listed_as.1 grown, list);
               bytes_as = subst (λ ys. Grown bytes₀ ys bytes') (sym (all_bytes_push s.answers answer)) (grown_then bytes₀ bytes bytes' (all_bytes s.answers) (bytes_of answer) s.filed.bytes_as h);
             }
 
-        pub so_far_more : b' ≡ (file_job_run ops l job.0 job.1 b).0 → Listed (number + 1) bytes.count answer results results' → Grown bytes (bytes_of answer) bytes' → Within (job_answers job.0) answer → SoFar (number + 1) js b' results' bytes'
+        pub so_far_more : b' ≡ (file_job_run ops l job.0 job.1 b).0 → Listed (number + 1) bytes.count answer results results'
+            → Grown bytes (bytes_of answer) bytes' → Within (job_answers job.0) answer → SoFar (number + 1) js b' results' bytes'
         so_far_more f listing grown within =
             let push = length-append s.answers (answer ∷ []) in
             let bytes-push = ap length (all_bytes_push s.answers answer) ∙ length-append (all_bytes s.answers) (bytes_of answer) in
