@@ -7,7 +7,7 @@ use crate::wire::{Wire, recording};
 use board::board::Board;
 use part::Part;
 use part::levels::Levels;
-use reader::line::Refused;
+use reader::line::RefusedText;
 use reader::read::read;
 use reader::transfer::Transfer;
 use rows::row::Row;
@@ -92,11 +92,11 @@ impl<P: Part + Drop + PartialEq> Setup<P> {
             Step::Lines => self.told.tell(Stored(byte_of(self.lines))),
             Step::Cell(part, n) => match self.board.cell(part, n) {
                 Ok(byte) => self.told.tell(Stored(byte)),
-                Err(refusal) => self.told.tell(Refused(refusal)),
+                Err(refusal) => self.told.tell(RefusedText(refusal)),
             },
             Step::Tap(part, n) => match self.board.tap(part, n) {
                 Ok(tap) => self.told.tell(tap),
-                Err(refusal) => self.told.tell(Refused(refusal)),
+                Err(refusal) => self.told.tell(RefusedText(refusal)),
             },
             _ => {}
         }
@@ -111,7 +111,7 @@ impl<P: Part + Drop + PartialEq> Setup<P> {
     fn run_into(&mut self, room: Room, file: &[u8]) -> anyhow::Result<()> {
         let ran = run(self.alloc, &mut self.board, &mut self.lines, room, file)?;
         if let Some(refusal) = ran.refused {
-            self.told.tell(Refused(refusal));
+            self.told.tell(RefusedText(refusal));
         }
         for &result in ran.results.iter().take(ran.count) {
             let bytes = &ran.bytes;
@@ -133,7 +133,7 @@ impl<P: Part + Drop + PartialEq> Setup<P> {
         let mut transfers = vec![in self.alloc; NO_TRANSFER; room]?;
         let mut row = Row::new(&mut transfers);
         if let Err(refusal) = read(&samples, &mut row) {
-            self.told.tell(Refused(refusal));
+            self.told.tell(RefusedText(refusal));
         }
         for &transfer in row.items() {
             self.told.tell(transfer);
@@ -166,7 +166,7 @@ impl<P: Part + Drop + PartialEq> Setup<P> {
         for &sample in samples {
             match self.board.sample(sample) {
                 Ok(high) => self.told.tell(u8::from(high)),
-                Err(refusal) => self.told.tell(Refused(refusal)),
+                Err(refusal) => self.told.tell(RefusedText(refusal)),
             }
         }
     }

@@ -25,9 +25,9 @@ impl fmt::Display for Transfer {
 
 // Why a recording was refused, by its number.
 #[derive(Clone, Copy)]
-pub struct Refused(pub Refusal);
+pub struct RefusedText(pub Refusal);
 
-impl fmt::Display for Refused {
+impl fmt::Display for RefusedText {
     ghost output = { λ refused. Some (refused_text refused.0) };
 
     fn fmt<W: fmt::Write>(&self, f: &mut fmt::Formatter<W>) -> fmt::Result {

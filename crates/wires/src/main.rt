@@ -1,7 +1,7 @@
 // Reads a recording of two wires from standard input, of any length, and prints a line for each transfer that it shows.
 #![tactic(auto)]
 
-use reader::line::Refused;
+use reader::line::RefusedText;
 use reader::read::Recording;
 use reader::transfer::Transfer;
 use rows::row::Row;
@@ -13,7 +13,7 @@ fn main(rt: HostRuntime) -> anyhow::Result<()> {
     let recording = match Recording::new(&samples) {
         Ok(recording) => recording,
         Err(refusal) => {
-            rt.println(Refused(refusal))?;
+            rt.println(RefusedText(refusal))?;
             return Ok(());
         }
     };
