@@ -5,7 +5,7 @@ use crate::setup::{byte_of, levels_of};
 use crate::told::{Outcome, Stored, Told};
 use board::board::Board;
 use controller::guard::WpGuard;
-use controller::note::Busy;
+use controller::note::Note;
 use controller::transfer::Quiet;
 use controller::wait::wait;
 use controller::write::write;
@@ -72,14 +72,14 @@ impl Notes {
 }
 
 // The address of a note that is then given up.
-fn given_up(note: Option<Busy>) -> Option<u8> {
+fn given_up(note: Option<Note>) -> Option<u8> {
     match note {
         Some(busy) => Some(busy.give_up()),
         None => None,
     }
 }
 
-fn noted(note: &Option<Busy>) -> Option<u8> {
+fn noted(note: &Option<Note>) -> Option<u8> {
     match note {
         Some(busy) => Some(busy.address()),
         None => None,

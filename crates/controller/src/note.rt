@@ -4,27 +4,27 @@ ghost use Rattle.std.specs.Prelude.{◌≡◌, true};
 ghost use Rattle.controller.specs.Notes.{noted, after_ready};
 
 // The flag stands beside the address for the prover: only a note that is spent may be dropped.
-pub struct Busy {
+pub struct Note {
     address: u8,
     spent: bool,
 }
 
-impl Drop for Busy {
+impl Drop for Note {
     fn drop(self)
         requires { self.spent ≡ true }
     {
-        let Busy {
+        let Note {
             address: _,
             spent: _,
         } = self;
     }
 }
 
-impl Busy {
-    pub(super) fn new(address: u8) -> Busy
+impl Note {
+    pub(super) fn new(address: u8) -> Note
         ensures { result ≡ noted address }
     {
-        Busy {
+        Note {
             address,
             spent: false,
         }
@@ -48,7 +48,7 @@ impl Busy {
 }
 
 // What is left of a note once the address got an ACK.
-pub(super) fn spend(note: Option<Busy>, address: u8) -> Option<Busy>
+pub(super) fn spend(note: Option<Note>, address: u8) -> Option<Note>
     ensures { result ≡ after_ready address note }
 {
     let busy = note?;

@@ -9,7 +9,7 @@ ghost use Rattle.controller.specs.Said.{master_of};
 ghost use Rattle.controller.specs.Jobs.{lowered};
 ghost use Rattle.controller.specs.Work.{polled, Works};
 
-use super::note::{Busy, spend};
+use super::note::{Note, spend};
 use super::waiting::poll;
 use board::board::Board;
 use jobfile::wait::Wait;
@@ -22,8 +22,8 @@ pub fn wait<P: Part>(
     board: &mut Board<P>,
     lines: &mut Levels,
     job: &Wait,
-    note: Option<Busy>,
-) -> (Option<Busy>, Result<(), Refusal>)
+    note: Option<Note>,
+) -> (Option<Note>, Result<(), Refusal>)
     ensures run { run P.Part.ops (master_of lines.old 0 (shown_wait job.now)) board.old ≡ (board.new, told (λ _. []) result.1) }
     ensures work { Works (polled P.Part.ops (lowered lines.old) job.now.address job.now.polls) board.old board.new (told (λ _. []) result.1) }
     ensures sampled { Sampled P.Part.ops board.old board.new }

@@ -10,7 +10,7 @@ ghost use Rattle.controller.specs.Jobs.{lowered};
 ghost use Rattle.controller.specs.Work.{written, Works};
 ghost use Rattle.controller.specs.Storing.{BringsBack};
 
-use super::note::Busy;
+use super::note::Note;
 use super::sending::write_low;
 use board::board::Board;
 use jobfile::write::Write;
@@ -24,7 +24,7 @@ pub fn write<P: Part>(
     board: &mut Board<P>,
     lines: &mut Levels,
     job: &Write<'_>,
-) -> Result<Busy, Refusal>
+) -> Result<Note, Refusal>
     ensures run { run P.Part.ops (master_of lines.old 0 (shown_write job.now)) board.old ≡ (board.new, told (λ _. []) result) }
     ensures work { Works (written P.Part.ops (lowered lines.old) job.now.address job.now.bytes.now) board.old board.new (told (λ _. []) result) }
     ensures brings_back { BringsBack P.Part.ops (lowered lines.old) job.now.address job.now.bytes.now board.old board.new (told (λ _. []) result) }
@@ -33,5 +33,5 @@ pub fn write<P: Part>(
     ensures note { Noted job.now.address result }
 {
     write_low(board, lines, job.address(), job.bytes())?;
-    Ok(Busy::new(job.address()))
+    Ok(Note::new(job.address()))
 }

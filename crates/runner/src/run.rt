@@ -17,7 +17,7 @@ ghost use Rattle.runner.specs.Runs.{job_run, file_job_run, ran, bytes_of, Within
 use super::result::{Done, JobResult, Refused};
 use super::room::room_for;
 use board::board::Board;
-use controller::note::Busy;
+use controller::note::Note;
 use controller::read::read;
 use controller::recovery::recover;
 use controller::samples::samples;
@@ -33,7 +33,7 @@ use refusals::Refusal;
 use rows::row::Row;
 
 // A note that is still held is given up.
-fn let_go(note: Option<Busy>) {
+fn let_go(note: Option<Note>) {
     if let Some(busy) = note {
         busy.give_up();
     }
@@ -44,8 +44,8 @@ fn run_write<P: Part>(
     board: &mut Board<P>,
     lines: &mut Levels,
     job: &Write<'_>,
-    note: Option<Busy>,
-) -> (Option<Busy>, Result<(), Refusal>)
+    note: Option<Note>,
+) -> (Option<Note>, Result<(), Refusal>)
     ensures run { run P.Part.ops (master_of lines.old 0 (shown_write job.now)) board.old ≡ (board.new, told (λ _. []) result.1) }
     ensures lines { lines.new ≡ lines.old }
 {
@@ -74,9 +74,9 @@ fn run_job<P: Part>(
     board: &mut Board<P>,
     lines: &mut Levels,
     job: &Job<'_>,
-    note: Option<Busy>,
+    note: Option<Note>,
     bytes: &mut Row<'_, u8>,
-) -> (Option<Busy>, Result<(), Refusal>)
+) -> (Option<Note>, Result<(), Refusal>)
     requires { answers (said job.now) ≤ room_of bytes.old }
     ensures run { Into (job_run P.Part.ops lines.old (said job.now) board.old) board.new bytes.old bytes.new (told (λ x. x) result.1) }
     ensures within { Within (answers (said job.now)) (job_run P.Part.ops lines.old (said job.now) board.old).1 }
@@ -118,10 +118,10 @@ fn run_next<P: Part>(
     at: usize,
     job: Result<Job<'_>, Refusal>,
     number: usize,
-    note: Option<Busy>,
+    note: Option<Note>,
     results: &mut Row<'_, JobResult>,
     bytes: &mut Row<'_, u8>,
-) -> Option<Busy>
+) -> Option<Note>
     requires result { results.old.count < length (items_of results.old) }
     requires answer { job_answers (told said job) ≤ room_of bytes.old }
     ensures board { board.new ≡ (file_job_run P.Part.ops lines.old (told said job.entry) at board.old).0 }
@@ -164,7 +164,7 @@ fn run_jobs<P: Part>(
     ensures results_lender { results.new.items.ghost_name ≡ results.old.items.ghost_name }
     ensures bytes_lender { bytes.new.items.ghost_name ≡ bytes.old.items.ghost_name }
 {
-    let mut note: Option<Busy> = None;
+    let mut note: Option<Note> = None;
     for (before, (at, job)) in Jobs::new(file).enumerate() {
         note = run_next(board, lines, at, job, before + 1, note, results, bytes);
     }
