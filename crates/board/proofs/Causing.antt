@@ -48,10 +48,10 @@ is_stopped fell = inr (λ z. let y : ◌≡◌ {A = ℕ} 0 1 = ap edge_tag z in 
 
 module _ {S : Type 0} (ops : Ops S) (keeps : Keeps ops) where
   then_lasting : (s t u : S) → Lasting ops s t → Lasting ops t u → Lasting ops s u
-  then_lasting s t u p q = record { cell = λ k i. q.cell k i ∙ p.cell k i; under = λ k i. q.under k i ∙ p.under k i }
+  then_lasting s t u p q = record { cell = λ k i. q.cell k i ∙ p.cell k i; under_way = λ k i. q.under_way k i ∙ p.under_way k i }
 
   same_lasting : (s : S) → Lasting ops s s
-  same_lasting s = record { cell = λ k i. refl; under = λ k i. refl }
+  same_lasting s = record { cell = λ k i. refl; under_way = λ k i. refl }
 
   offered_lasting : (l : Levels) (bs : List Byte) (x : ℕ) (s : S) → Lasting ops s (moved ops s (offered l bs x))
   offered_lasting l [] x s = (keeps.addresses s x).lasting
@@ -74,11 +74,11 @@ module _ {S : Type 0} (ops : Ops S) (keeps : Keeps ops) where
 
   -- what one call does to a cell of the numbered part k
   record Fate (b : Board S) (call : Call) (c : Board S) (h : History) (k i : ℕ) : Type 0 where
-    cell : (ops.cell c.part k i ≡ ops.cell b.part k i) ⊎ (ops.under b.part k i ≡ Some (ops.cell c.part k i))
-    under : (v : ℕ) → ops.under c.part k i ≡ Some v → (ops.under b.part k i ≡ Some v) ⊎ Writes ops b call c h k v
+    cell : (ops.cell c.part k i ≡ ops.cell b.part k i) ⊎ (ops.under_way b.part k i ≡ Some (ops.cell c.part k i))
+    under_way : (v : ℕ) → ops.under_way c.part k i ≡ Some v → (ops.under_way b.part k i ≡ Some v) ⊎ Writes ops b call c h k v
 
-  quiet_fate : (b : Board S) (call : Call) (c : Board S) (h : History) (k i : ℕ) → ops.cell c.part k i ≡ ops.cell b.part k i → ops.under c.part k i ≡ ops.under b.part k i → Fate b call c h k i
-  quiet_fate b call c h k i e f = record { cell = inl e; under = λ v g. inl (sym f ∙ g) }
+  quiet_fate : (b : Board S) (call : Call) (c : Board S) (h : History) (k i : ℕ) → ops.cell c.part k i ≡ ops.cell b.part k i → ops.under_way c.part k i ≡ ops.under_way b.part k i → Fate b call c h k i
+  quiet_fate b call c h k i e f = record { cell = inl e; under_way = λ v g. inl (sym f ∙ g) }
 
   -- a STOP, of which the levels have reached the part
   pub clean_some : (o : Option Transfer) → clean o ≡ true → (t : Transfer) × ((o ≡ Some t) × (is_clean t ≡ true))
@@ -99,9 +99,9 @@ module _ {S : Type 0} (ops : Ops S) (keeps : Keeps ops) where
       let halt = keeps.stops (ops.level b.part l) (clean h.opened) l in
       record {
         cell = inl (rw e (halt.cell k i ∙ up.calm.lasting.cell k i));
-        under = λ v u. elim (halt.under k i) [
-          | inl same ↦ inl (sym (up.calm.lasting.under k i) ∙ sym same ∙ ap (λ s. ops.under s k i) (sym e) ∙ u)
-          | inr new ↦ inr (ended v (sym new.3 ∙ ap (λ s. ops.under s k i) (sym e) ∙ u) new.1 new.2)
+        under_way = λ v u. elim (halt.under_way k i) [
+          | inl same ↦ inl (sym (up.calm.lasting.under_way k i) ∙ sym same ∙ ap (λ s. ops.under_way s k i) (sym e) ∙ u)
+          | inr new ↦ inr (ended v (sym new.3 ∙ ap (λ s. ops.under_way s k i) (sym e) ∙ u) new.1 new.2)
         ];
       }
     where
@@ -137,24 +137,24 @@ module _ {S : Type 0} (ops : Ops S) (keeps : Keeps ops) where
 
       mine : k ≡ q → Fate b (Finish q) c h k i
       mine same = subst (λ j. Fate b (Finish q) c h j i) (sym same) (record {
-        cell = store_or_not _ (ops.under b.part q i) _ _ refl (ap (λ s. ops.cell s q i) e ∙ f.stores i);
-        under = λ v u. absurd (none-some v (sym (f.ends i) ∙ ap (λ s. ops.under s q i) (sym e) ∙ u));
+        cell = store_or_not _ (ops.under_way b.part q i) _ _ refl (ap (λ s. ops.cell s q i) e ∙ f.stores i);
+        under_way = λ v u. absurd (none-some v (sym (f.ends i) ∙ ap (λ s. ops.under_way s q i) (sym e) ∙ u));
       })
 
       others : (k ≢ q) → Fate b (Finish q) c h k i
-      others n = quiet_fate b (Finish q) c h k i (ap (λ s. ops.cell s k i) e ∙ f.other_cell k i n) (ap (λ s. ops.under s k i) e ∙ f.other_under k i n)
+      others n = quiet_fate b (Finish q) c h k i (ap (λ s. ops.cell s k i) e ∙ f.other_cell k i n) (ap (λ s. ops.under_way s k i) e ∙ f.other_under_way k i n)
 
   cut_fate : (b : Board S) (p : PowerCut) (c : Board S) (h : History) (k i : ℕ) → c.part ≡ ops.cut b.part p → Fate b (Cut p) c h k i
   cut_fate b p c h k i e = record {
     cell = by (eqb (p.mask / 2 ^ ops.offset b.part k i % 2) 1) refl;
-    under = λ v u. absurd (none-some v (sym (f.ends k i) ∙ ap (λ s. ops.under s k i) (sym e) ∙ u));
+    under_way = λ v u. absurd (none-some v (sym (f.ends k i) ∙ ap (λ s. ops.under_way s k i) (sym e) ∙ u));
   }
     where
       f : Cuts ops b.part p (ops.cut b.part p)
       f = keeps.cuts b.part p
 
-      by : (t : Bool) → eqb (p.mask / 2 ^ ops.offset b.part k i % 2) 1 ≡ t → (ops.cell c.part k i ≡ ops.cell b.part k i) ⊎ (ops.under b.part k i ≡ Some (ops.cell c.part k i))
-      by true g = store_or_not _ (ops.under b.part k i) _ _ refl (ap (λ s. ops.cell s k i) e ∙ f.marked k i (eqb-true _ 1 g))
+      by : (t : Bool) → eqb (p.mask / 2 ^ ops.offset b.part k i % 2) 1 ≡ t → (ops.cell c.part k i ≡ ops.cell b.part k i) ⊎ (ops.under_way b.part k i ≡ Some (ops.cell c.part k i))
+      by true g = store_or_not _ (ops.under_way b.part k i) _ _ refl (ap (λ s. ops.cell s k i) e ∙ f.marked k i (eqb-true _ 1 g))
       by false g = inl (ap (λ s. ops.cell s k i) e ∙ f.unmarked k i (eqb-false _ 1 g))
 
   abbrev told_by : Board S → ℕ → Board S → History → List Move
@@ -166,17 +166,17 @@ module _ {S : Type 0} (ops : Ops S) (keeps : Keeps ops) where
     | inl st ↦ stop_fate b x c h k i st (e ∙ ap (λ z. after ops (ops.level b.part (levels x)) (told z (levels x) h.opened)) st) held
     | inr n ↦ (
         let r = then_lasting _ _ _ (keeps.levels b.part (levels x)).calm.lasting (edge_lasting (edge_of ops b (Sample x) c) (levels x) h.opened (ops.level b.part (levels x)) n) in
-        quiet_fate b (Sample x) c h k i (ap (λ s. ops.cell s k i) e ∙ r.cell k i) (ap (λ s. ops.under s k i) e ∙ r.under k i))
+        quiet_fate b (Sample x) c h k i (ap (λ s. ops.cell s k i) e ∙ r.cell k i) (ap (λ s. ops.under_way s k i) e ∙ r.under_way k i))
   ]
 
   sample_fate_by : (t : Bool) (b : Board S) (x : ℕ) (c : Board S) (h : History) (k i : ℕ) → ltb x 32 ≡ t → Advances ops b (Sample x) c h
       → Open ops keeps h.answer h.opened b.part → Fate b (Sample x) c h k i
   sample_fate_by true b x c h k i e a held = sample_fate b x c h k i (a.part ∙ ap (after ops b.part) (cond-true _ _ _ e)) held
-  sample_fate_by false b x c h k i e a held = let same = a.refused e in quiet_fate b (Sample x) c h k i (ap (λ z. ops.cell z.part k i) same) (ap (λ z. ops.under z.part k i) same)
+  sample_fate_by false b x c h k i e a held = let same = a.refused e in quiet_fate b (Sample x) c h k i (ap (λ z. ops.cell z.part k i) same) (ap (λ z. ops.under_way z.part k i) same)
 
   finish_fate_by : (t : Bool) (b : Board S) (q : ℕ) (c : Board S) (h : History) (k i : ℕ) → (numbered ops b q && ops.busy b.part q) ≡ t → Advances ops b (Finish q) c h → Fate b (Finish q) c h k i
   finish_fate_by true b q c h k i e a = finish_fate b q c h k i (a.part ∙ ap (after ops b.part) (cond-true _ _ _ e))
-  finish_fate_by false b q c h k i e a = let same = a.refused e in quiet_fate b (Finish q) c h k i (ap (λ z. ops.cell z.part k i) same) (ap (λ z. ops.under z.part k i) same)
+  finish_fate_by false b q c h k i e a = let same = a.refused e in quiet_fate b (Finish q) c h k i (ap (λ z. ops.cell z.part k i) same) (ap (λ z. ops.under_way z.part k i) same)
 
   fate : (b : Board S) (call : Call) (c : Board S) (h : History) (k i : ℕ) → Advances ops b call c h → Open ops keeps h.answer h.opened b.part → Fate b call c h k i
   fate b (Sample x) c h k i a held = sample_fate_by (ltb x 32) b x c h k i refl a held
@@ -233,7 +233,7 @@ module _ {S : Type 0} (ops : Ops S) (keeps : Keeps ops) where
 
       record Sourced (n : ℕ) : Type 0 where
         cell : (ops.cell (B n).part k i ≡ ops.cell (B p).part k i) ⊎ W n (ops.cell (B n).part k i)
-        under : (v : ℕ) → ops.under (B n).part k i ≡ Some v → W n v
+        under_way : (v : ℕ) → ops.under_way (B n).part k i ≡ Some v → W n v
 
       later : (n v : ℕ) → W n v → W (suc n) v
       later n v w = let lt = w.to in record { n = w.n; from = w.from; to = omega arith; write = w.write }
@@ -247,10 +247,10 @@ module _ {S : Type 0} (ops : Ops S) (keeps : Keeps ops) where
                 | inl g ↦ inl (e ∙ g)
                 | inr w ↦ inr (later n _ (subst (W n) (sym e) w))
               ]
-              | inr u ↦ inr (later n _ (s.under _ u))
+              | inr u ↦ inr (later n _ (s.under_way _ u))
             ];
-            under = λ v u. elim (f.under v u) [
-              | inl g ↦ later n v (s.under v g)
+            under_way = λ v u. elim (f.under_way v u) [
+              | inl g ↦ later n v (s.under_way v g)
               | inr w ↦ record { n = n; from = le; to = lt-suc_self n; write = w }
             ];
           }
@@ -262,8 +262,8 @@ module _ {S : Type 0} (ops : Ops S) (keeps : Keeps ops) where
       abbrev Outcome : ℕ → Type 0
       Outcome q = (ops.cell (B q).part k i ≡ ops.cell (B p).part k i) ⊎ W q (ops.cell (B q).part k i)
 
-    caused_here : (p q k i : ℕ) → p ≤ q → ops.under (B p).part k i ≡ None → Outcome p k i q
-    caused_here p q k i le free = (sourced p k i (q - p) q (omega arith) (record { cell = inl refl; under = λ v u. absurd (none-some v (sym free ∙ u)) })).cell
+    caused_here : (p q k i : ℕ) → p ≤ q → ops.under_way (B p).part k i ≡ None → Outcome p k i q
+    caused_here p q k i le free = (sourced p k i (q - p) q (omega arith) (record { cell = inl refl; under_way = λ v u. absurd (none-some v (sym free ∙ u)) })).cell
 
   pub caused : (b : Board S) → b.bus.phase ≡ Closed → Caused ops b
   unfolding Caused

@@ -9,7 +9,7 @@ use Rattle.part.specs.Ops.{Ops}
 use Rattle.part.specs.Keeps.{Keeps}
 use Rattle.part.specs.Moves.{Move, levelling, finishing, after}
 use Rattle.part.specs.Seats.{Seat}
-use Rattle.eeprom.specs.Cells.{byte_at, staged_at, under_at}
+use Rattle.eeprom.specs.Cells.{byte_at, staged_at, under_way_at}
 use Rattle.x9520.specs.declared.state.X9520.{X9520}
 use Rattle.x9520.specs.Chip.{x9520}
 use Rattle.x9520.specs.State.{fresh}
@@ -159,8 +159,8 @@ module _ {S : Type 0} (ops : Ops S) (keeps : Keeps ops) (number : S → ℕ) (se
     pub staged_is : (n i : ℕ) → ops.staged (B n).part (number b.part) i ≡ staged_at (C n).eeprom i
     staged_is n i = ap (λ j. ops.staged (B n).part j i) (sym (number_is n)) ∙ (seat.shown (B n).part).staged i
 
-    pub under_is : (n i : ℕ) → ops.under (B n).part (number b.part) i ≡ under_at (C n).eeprom i
-    under_is n i = ap (λ j. ops.under (B n).part j i) (sym (number_is n)) ∙ (seat.shown (B n).part).under i
+    pub under_way_is : (n i : ℕ) → ops.under_way (B n).part (number b.part) i ≡ under_way_at (C n).eeprom i
+    under_way_is n i = ap (λ j. ops.under_way (B n).part j i) (sym (number_is n)) ∙ (seat.shown (B n).part).under_way i
 
     pub tap_is : (n j : ℕ) → ops.tap (B n).part (number b.part) j ≡ x9520.tap (C n) 0 j
     tap_is n j = ap (λ m. ops.tap (B n).part m j) (sym (number_is n)) ∙ (seat.shown (B n).part).tap j

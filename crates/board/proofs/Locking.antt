@@ -9,7 +9,7 @@ use Rattle.part.specs.Ops.{Ops}
 use Rattle.part.specs.Keeps.{Keeps}
 use Rattle.part.specs.Moves.{levelling}
 use Rattle.part.specs.Seats.{Seat}
-use Rattle.eeprom.specs.Cells.{byte_at, under_at}
+use Rattle.eeprom.specs.Cells.{byte_at, under_way_at}
 use Rattle.protection.specs.Lock.{locks_wipers}
 use Rattle.x9520.specs.declared.state.X9520.{X9520}
 use Rattle.x9520.specs.declared.state.Mode.TheVariants.{Storing}
@@ -18,7 +18,7 @@ use Rattle.x9520.specs.Locks.{locks}
 use Rattle.x9520.specs.State.{fresh}
 use Rattle.x9520.specs.Register.{bit, stored_register}
 use Rattle.x9520.proofs.Lock.{Guarded, guarded_step, none_by, register_begins}
-use Rattle.x9520.proofs.Calm.{CalmMove, calm_register, stop_byte, stop_tap, stop_locked, finish_either, finish_under, finish_tap, cut_either, cut_under}
+use Rattle.x9520.proofs.Calm.{CalmMove, calm_register, stop_byte, stop_tap, stop_locked, finish_either, finish_under_way, finish_tap, cut_either, cut_under_way}
 use Rattle.x9520.proofs.Place.{where_is}
 use Rattle.board.specs.declared.board.Board.{Board}
 use Rattle.board.specs.declared.bus.Phase.TheVariants.{Closed}
@@ -27,7 +27,7 @@ use Rattle.board.specs.Engine.{idle}
 use Rattle.board.specs.Runs.{state, history}
 use Rattle.board.specs.Cause.{wp_of}
 use Rattle.board.specs.Lock.{IsCut, Registers, Opened, Locks, register}
-use Rattle.board.proofs.Events.{Event, calm, stops, finishes, cuts, event, guarded, cell_is, under_is, tap_is}
+use Rattle.board.proofs.Events.{Event, calm, stops, finishes, cuts, event, guarded, cell_is, under_way_is, tap_is}
 use Rattle.board.proofs.Latching.{IsStop, clean_at, Armed, known, writes, one_byte}
 
 module _ {S : Type 0} (ops : Ops S) (keeps : Keeps ops) (number : S → ℕ) (see : S → X9520) (seat : Seat ops x9520 number see)
@@ -57,7 +57,7 @@ module _ {S : Type 0} (ops : Ops S) (keeps : Keeps ops) (number : S → ℕ) (se
     record Shut (c : X9520) : Type 0 where
       same : Same c
       shut : lock (stored_register c) ≡ true
-      coming : (v : ℕ) → under_at c.eeprom 259 ≡ Some v → lock v ≡ true
+      coming : (v : ℕ) → under_way_at c.eeprom 259 ≡ Some v → lock v ≡ true
 
     abbrev Op : ℕ → Type 0
     Op n = Opened ops b calls k lock p n
@@ -117,8 +117,8 @@ module _ {S : Type 0} (ops : Ops S) (keeps : Keeps ops) (number : S → ℕ) (se
     stored_lock old new_byte o (inl e) h g = ap lock e ∙ h
     stored_lock old new_byte o (inr e) h g = g new_byte e
 
-    coming_at : (o : Option ℕ) (t : Bool) (n : ℕ) (c : X9520) → under_at c.eeprom 259 ≡ o → ((v : ℕ) → o ≡ Some v → (lock v ≡ true) ⊎ Op (suc n))
-        → Op (suc n) ⊎ ((v : ℕ) → under_at c.eeprom 259 ≡ Some v → lock v ≡ true)
+    coming_at : (o : Option ℕ) (t : Bool) (n : ℕ) (c : X9520) → under_way_at c.eeprom 259 ≡ o → ((v : ℕ) → o ≡ Some v → (lock v ≡ true) ⊎ Op (suc n))
+        → Op (suc n) ⊎ ((v : ℕ) → under_way_at c.eeprom 259 ≡ Some v → lock v ≡ true)
     coming_at None t n c e f = inr (λ v u. absurd (none-some v (sym e ∙ u)))
     coming_at (Some v) t n c e f = elim (f v refl) [
       | inl h ↦ inr (λ u g. (let z : v ≡ u = (let y : ◌≡◌ {A = Option ℕ} (Some v) (Some u) = sym e ∙ g in (let x : v ≡ u = cc in x)) in subst (λ i. lock i ≡ true) z h))
@@ -136,7 +136,7 @@ module _ {S : Type 0} (ops : Ops S) (keeps : Keeps ops) (number : S → ℕ) (se
         let cl = clean_at ops keeps number see seat b closed new calls n in
         let d = x9520.stop (x9520.level (C n) l) cl l in
         let g : Guarded (x9520.level (C n) l) = level_guarded (C n) l (guard n) in
-        elim (coming_at (under_at d.eeprom 259) true n d refl (λ v u. elim (register_begins (x9520.level (C n) l) g cl l v u) [
+        elim (coming_at (under_way_at d.eeprom 259) true n d refl (λ v u. elim (register_begins (x9520.level (C n) l) g cl l v u) [
           | inl was ↦ inl (r.coming v was)
           | inr s ↦ either_way _ n v refl (opens n v lo st nc s.2 (low ∙ s.3) s.0 s.1)
         ])) [
@@ -148,19 +148,19 @@ module _ {S : Type 0} (ops : Ops S) (keeps : Keeps ops) (number : S → ℕ) (se
         level_guarded c l g = guarded_step c (levelling l) tt g
 
     shut_event : (n : ℕ) → p ≤ n → n < q → Event ops keeps number see seat (B n) (calls n) (B (suc n)) (history ops b calls n) → Shut (C n) → Op (suc n) ⊎ Shut (C (suc n))
-    shut_event n lo hi (calm m f c) r = inr (record { same = same_calm (C n) _ m r.shut r.same; shut = ap lock (calm_register (C n) _ m) ∙ r.shut; coming = λ v u. r.coming v (sym (m.under 259) ∙ u) })
+    shut_event n lo hi (calm m f c) r = inr (record { same = same_calm (C n) _ m r.shut r.same; shut = ap lock (calm_register (C n) _ m) ∙ r.shut; coming = λ v u. r.coming v (sym (m.under_way 259) ∙ u) })
     shut_event n lo hi (stops l low is st c) r = shut_stop n l lo low is st c r
     shut_event n lo hi (finishes is f c) r =
         inr (subst Shut (sym is) (record {
           same = same_finish (C n) r.same;
           shut = stored_lock _ _ _ (finish_either (C n) 259) r.shut r.coming;
-          coming = λ v u. absurd (none-some v (sym (finish_under (C n) 259) ∙ u));
+          coming = λ v u. absurd (none-some v (sym (finish_under_way (C n) 259) ∙ u));
         }))
     shut_event n lo hi (cuts w is f c) r =
         inr (subst Shut (sym is) (record {
           same = same_cut n lo hi c (C n) w r.same;
           shut = stored_lock _ _ _ (cut_either (C n) w 259) r.shut r.coming;
-          coming = λ v u. absurd (none-some v (sym (cut_under (C n) w 259) ∙ u));
+          coming = λ v u. absurd (none-some v (sym (cut_under_way (C n) w 259) ∙ u));
         }))
 
     one_on : (n : ℕ) → p ≤ n → n < q → Op n ⊎ Shut (C n) → Op (suc n) ⊎ Shut (C (suc n))
@@ -171,19 +171,19 @@ module _ {S : Type 0} (ops : Ops S) (keeps : Keeps ops) (number : S → ℕ) (se
     on zero n e hi r = let z : p ≡ n = omega arith in subst (λ i. Op i ⊎ Shut (C i)) z (inr r)
     on (suc d) n e hi r = let z : suc (d + p) ≡ n = omega arith in subst (λ i. Op i ⊎ Shut (C i)) z (one_on (d + p) (omega arith) (omega arith) (on d (d + p) refl (omega arith) r))
 
-    pub unchanged : p ≤ q → Same (C p) → lock (stored_register (C p)) ≡ true → ((v : ℕ) → under_at (C p).eeprom 259 ≡ Some v → ⊥) → Op q ⊎ Same (C q)
+    pub unchanged : p ≤ q → Same (C p) → lock (stored_register (C p)) ≡ true → ((v : ℕ) → under_way_at (C p).eeprom 259 ≡ Some v → ⊥) → Op q ⊎ Same (C q)
     unchanged le s h u = elim (on (q - p) q (omega arith) (omega arith) (record { same = s; shut = h; coming = λ v e. absurd (u v e) })) [ inl o ↦ inl o | inr r ↦ inr r.same ]
 
   -- from a state with nothing under way in the chip
   module _ (p q : ℕ) (le : p ≤ q) (free : ops.busy (B p).part k ≡ false) where
-    idle_cell : (i v : ℕ) → under_at (C p).eeprom i ≡ Some v → ⊥
-    idle_cell i v e = clash (sym free ∙ (keeps.shape (B p).part).busy_if k i v (under_is ops keeps number see seat b closed new calls p i ∙ e))
+    idle_cell : (i v : ℕ) → under_way_at (C p).eeprom i ≡ Some v → ⊥
+    idle_cell i v e = clash (sym free ∙ (keeps.shape (B p).part).busy_if k i v (under_way_is ops keeps number see seat b closed new calls p i ∙ e))
 
     register_is : register ops b calls k p ≡ stored_register (C p)
     register_is = cell_is ops keeps number see seat b closed new calls p 259
 
     abbrev SameByte : ℕ → X9520 → Type 0
-    SameByte i c = (byte_at c.eeprom i ≡ byte_at (C p).eeprom i) × (under_at c.eeprom i ≡ None)
+    SameByte i c = (byte_at c.eeprom i ≡ byte_at (C p).eeprom i) × (under_way_at c.eeprom i ≡ None)
 
     -- a cell with nothing under way keeps its byte at a finish, or at a power cut
     rests : (i : ℕ) (old now : ℕ) (o : Option ℕ) → (now ≡ old) ⊎ (o ≡ Some now) → o ≡ None → now ≡ old
@@ -192,10 +192,10 @@ module _ {S : Type 0} (ops : Ops S) (keeps : Keeps ops) (number : S → ℕ) (se
 
     locked_byte : (i : ℕ) → locks (register ops b calls k p) i ≡ true → (ops.cell (B q).part k i ≡ ops.cell (B p).part k i) ⊎ Opened ops b calls k (λ r. locks r i) p q
     locked_byte i h = elim (unchanged (λ r. locks r i) (SameByte i) p q
-        (λ c d m l s. (m.cells i ∙ s.0, m.under i ∙ s.1))
+        (λ c d m l s. (m.cells i ∙ s.0, m.under_way i ∙ s.1))
         (λ c cl l g h s. (stop_byte (x9520.level c l) cl l i ∙ s.0, stop_locked (x9520.level c l) cl l (guarded_step c (levelling l) tt g) i h ∙ s.1))
-        (λ c s. (rests i _ _ _ (finish_either c i) s.1 ∙ s.0, finish_under c i))
-        (λ n lo hi cu c w s. (rests i _ _ _ (cut_either c w i) s.1 ∙ s.0, cut_under c w i))
+        (λ c s. (rests i _ _ _ (finish_either c i) s.1 ∙ s.0, finish_under_way c i))
+        (λ n lo hi cu c w s. (rests i _ _ _ (cut_either c w i) s.1 ∙ s.0, cut_under_way c w i))
         le (refl, none_by _ (idle_cell i)) (ap (λ r. locks r i) (sym register_is) ∙ h) (idle_cell 259)) [
           | inl o ↦ inr o
           | inr s ↦ inl (cell_is ops keeps number see seat b closed new calls q i ∙ s.0 ∙ sym (cell_is ops keeps number see seat b closed new calls p i))

@@ -46,6 +46,6 @@ module _ {S : Type 0} (ops : Ops S) (b : Board S) (calls : ℕ → Call) where
 
 -- A cell with no write under way holds the same byte in a later state, or it was written in between.
 unfoldable pub Caused : {S : Type 0} → Ops S → Board S → Type 0
-Caused ops b = (calls : ℕ → Call) (p q k i : ℕ) → p ≤ q → ops.under (state ops b calls p).part k i ≡ None →
+Caused ops b = (calls : ℕ → Call) (p q k i : ℕ) → p ≤ q → ops.under_way (state ops b calls p).part k i ≡ None →
     (ops.cell (state ops b calls q).part k i ≡ ops.cell (state ops b calls p).part k i)
     ⊎ Written ops b calls p q k (ops.cell (state ops b calls q).part k i)

@@ -109,18 +109,18 @@ module _ {S : Type 0} (ops : Ops S) (keeps : Keeps ops) where
   not_begun (inl e) = e
   not_begun (inr h) = absurd (clash h.1)
 
-  under_left : (k i : ℕ) → Leaves ops (λ s. ops.under s k i)
-  under_left k i = record {
-    start = λ s. (keeps.starts s).calm.lasting.under k i;
-    address = λ s x. (keeps.addresses s x).lasting.under k i;
-    aim = λ s y l x. (keeps.aiming s y l x).calm.lasting.under k i;
-    give = λ s y. (keeps.gives s y).calm.lasting.under k i;
-    level = λ s l. (keeps.levels s l).calm.lasting.under k i;
-    stop = λ s l. not_begun ((keeps.stops s false l).under k i);
+  under_way_left : (k i : ℕ) → Leaves ops (λ s. ops.under_way s k i)
+  under_way_left k i = record {
+    start = λ s. (keeps.starts s).calm.lasting.under_way k i;
+    address = λ s x. (keeps.addresses s x).lasting.under_way k i;
+    aim = λ s y l x. (keeps.aiming s y l x).calm.lasting.under_way k i;
+    give = λ s y. (keeps.gives s y).calm.lasting.under_way k i;
+    level = λ s l. (keeps.levels s l).calm.lasting.under_way k i;
+    stop = λ s l. not_begun ((keeps.stops s false l).under_way k i);
   }
 
   -- the same writes under way are as busy
-  busy_then : (s t : S) (k : ℕ) → ((i : ℕ) → ops.under t k i ≡ ops.under s k i) → ops.busy t k ≡ true → ops.busy s k ≡ true
+  busy_then : (s t : S) (k : ℕ) → ((i : ℕ) → ops.under_way t k i ≡ ops.under_way s k i) → ops.busy t k ≡ true → ops.busy s k ≡ true
   busy_then s t k same h =
       let u = (keeps.shape t).busy_by k h in
       (keeps.shape s).busy_if k u.0 u.1.0 (sym (same u.0) ∙ u.1.1)
@@ -133,12 +133,12 @@ module _ {S : Type 0} (ops : Ops S) (keeps : Keeps ops) where
   still : (l : Levels) (a : ℕ) (aim : List ℕ) (n : ℕ) (b c : Board S) → c.part ≡ (read_work ops l a aim n b.part).0 → (k : ℕ) → Still ops k b c
   still l a aim n b c is k =
       let s : S = b.part in
-      let under : (i : ℕ) → ops.under c.part k i ≡ ops.under s k i =
-      λ i. ap (λ t. ops.under t k i) is ∙ read_leaves ops (λ t. ops.under t k i) (under_left k i) l a aim n (inl (λ t y x. (keeps.taking t y l x).lasting.under k i)) s in
+      let under_way : (i : ℕ) → ops.under_way c.part k i ≡ ops.under_way s k i =
+      λ i. ap (λ t. ops.under_way t k i) is ∙ read_leaves ops (λ t. ops.under_way t k i) (under_way_left k i) l a aim n (inl (λ t y x. (keeps.taking t y l x).lasting.under_way k i)) s in
       record {
         cell = λ i. ap (λ t. ops.cell t k i) is ∙ read_leaves ops (λ t. ops.cell t k i) (cell_left k i) l a aim n (inl (λ t y x. (keeps.taking t y l x).lasting.cell k i)) s;
-        under = under;
-        busy = as_busy _ _ (busy_then s c.part k under) (busy_then c.part s k (λ i. sym (under i)));
+        under_way = under_way;
+        busy = as_busy _ _ (busy_then s c.part k under_way) (busy_then c.part s k (λ i. sym (under_way i)));
       }
 
 -- an X9520 leaves its wipers and its latches too

@@ -3,14 +3,14 @@
 use Rattle.std.proofs.Common.{◌≡◌, ℕ, zero, suc, ◌<◌, ◌≤◌, ◌≢◌, false, cond, eqb, ◌⊎◌, List, [], ◌∷◌, length, Some, None, Option, unwrap_or, sym, refl, ap, ◌∙◌, subst, inl, inr, arith}
 use Rattle.std.proofs.lemmas.Bool.{lt-ltb, eq-eqb, ne_eqb, cases_eq, cond-true}
 use Rattle.std.specs.Option.{option_or}
-use Rattle.eeprom.specs.Cells.{byte_at, staged_at, under_at, is_busy, stages, unstages, begins}
+use Rattle.eeprom.specs.Cells.{byte_at, staged_at, under_way_at, is_busy, stages, unstages, begins}
 use Rattle.eeprom.specs.OnePart.{OnePart, part_of}
 use Rattle.eeprom.specs.Pages.{next_in_page}
 use Rattle.eeprom.specs.declared.Eeprom.{Eeprom}
-use Rattle.eeprom.proofs.Moves.{stages_staged, unstages_staged, begins_under}
+use Rattle.eeprom.proofs.Moves.{stages_staged, unstages_staged, begins_under_way}
 use Rattle.eeprom.proofs.OnePart.{OwnMoves}
 use Rattle.controller.specs.Cells.{falls_on, Last, Missed, Stands}
-use Rattle.controller.proofs.Over.{over, free_under, over_cell}
+use Rattle.controller.proofs.Over.{over, free_under_way, over_cell}
 
 -- how the cells of a page follow one another, in a memory of 256 cells
 pub record Turns (page : ℕ) : Type 0 where
@@ -86,9 +86,9 @@ module _ {N : ℕ} (page : ℕ) where
   filled_byte e n [] i = refl
   filled_byte e n (x ∷ xs) i = filled_byte (stages e n x) (next_in_page page n) xs i
 
-  filled_under : (e : Eeprom N) (n : ℕ) (ds : List ℕ) (i : ℕ) → under_at (filled page e n ds) i ≡ under_at e i
-  filled_under e n [] i = refl
-  filled_under e n (x ∷ xs) i = filled_under (stages e n x) (next_in_page page n) xs i
+  filled_under_way : (e : Eeprom N) (n : ℕ) (ds : List ℕ) (i : ℕ) → under_way_at (filled page e n ds) i ≡ under_way_at e i
+  filled_under_way e n [] i = refl
+  filled_under_way e n (x ∷ xs) i = filled_under_way (stages e n x) (next_in_page page n) xs i
 
   filled_staged : Turns page → 256 ≤ N → (e : Eeprom N) (n : ℕ) (ds : List ℕ) (i : ℕ) → n < 256 → Staged page n ds i (staged_at e i) (staged_at (filled page e n ds) i)
   filled_staged t large e n [] i h = inr ((λ m l e. absurd (omega arith)), refl)
@@ -109,8 +109,8 @@ module _ (page n : ℕ) (ds : List ℕ) (i : ℕ) where
   over_stands {N = N} c moves s e turns large small free is =
       let old : ℕ = byte_at e i in
       let f : Eeprom N = filled page (unstages e) n ds in
-      let none : under_at f i ≡ None = filled_under page (unstages e) n ds i ∙ free_under e free i in
-      let write : under_at (begins f) i ≡ staged_at f i = begins_under f i ∙ ap (λ u. option_or u (staged_at f i)) none in
-      let stored = over_cell c moves s i ∙ ap (λ g. unwrap_or (under_at g i) (byte_at g i)) is ∙ (λ k. unwrap_or (write k) (filled_byte page (unstages e) n ds i k)) in
+      let none : under_way_at f i ≡ None = filled_under_way page (unstages e) n ds i ∙ free_under_way e free i in
+      let write : under_way_at (begins f) i ≡ staged_at f i = begins_under_way f i ∙ ap (λ u. option_or u (staged_at f i)) none in
+      let stored = over_cell c moves s i ∙ ap (λ g. unwrap_or (under_way_at g i) (byte_at g i)) is ∙ (λ k. unwrap_or (write k) (filled_byte page (unstages e) n ds i k)) in
       let staged = subst (λ o. Staged page n ds i o (staged_at f i)) (unstages_staged e i) (filled_staged page turns large (unstages e) n ds i small) in
       subst (λ v. Stands page n ds i old v) (sym stored) (value_stands old (staged_at f i) staged)

@@ -5,8 +5,8 @@ use Rattle.std.proofs.Math.Bool.{and_assoc}
 use Rattle.std.proofs.lemmas.Bool.{eqb-true, ne_eqb}
 use Rattle.refusals.specs.Told.{Told, ok, refused}
 use Rattle.part.specs.declared.levels.Levels.{Levels}
-use Rattle.eeprom.specs.Cells.{byte_at, under_at, is_busy, stages, unstages, begins}
-use Rattle.eeprom.proofs.Moves.{busy_if, free_if, stages_staged, unstages_staged, begins_under}
+use Rattle.eeprom.specs.Cells.{byte_at, under_way_at, is_busy, stages, unstages, begins}
+use Rattle.eeprom.proofs.Moves.{busy_if, free_if, stages_staged, unstages_staged, begins_under_way}
 use Rattle.protection.specs.Latching.{disarmed}
 use Rattle.protection.specs.declared.latches.Latches.{Latches}
 use Rattle.x9520.specs.Chip.{x9520, as_part, flags_at}
@@ -22,7 +22,7 @@ use Rattle.controller.specs.Storing.{Shows}
 use Rattle.controller.specs.Work.{on_ack, done, closed, written, given, addressed, fetched, read}
 use Rattle.controller.proofs.Accepting.{busy_refuses, free_if_accepted}
 use Rattle.controller.proofs.Giving.{Reads, reads_same}
-use Rattle.controller.proofs.Over.{over, free_under, over_cell, over_ready, over_rest}
+use Rattle.controller.proofs.Over.{over, free_under_way, over_cell, over_ready, over_rest}
 use Rattle.controller.proofs.Runs.{bit_small}
 
 -- a job that writes the byte x to the register
@@ -60,7 +60,7 @@ pub record Enabled (s : X9520) (rwel : Bool) (w : X9520 × Told (List ℕ)) : Ty
 -- one that starts the cycle of the register byte x alone, at the levels l
 record Begun (s : X9520) (l : Levels) (x : ℕ) (w : X9520 × Told (List ℕ)) : Type 0 where
   took : Took s w
-  under : (i : ℕ) → under_at w.0.eeprom i ≡ cond (eqb i 259) (Some x) None
+  under_way : (i : ℕ) → under_way_at w.0.eeprom i ≡ cond (eqb i 259) (Some x) None
   flags_are : w.0.flags ≡ flags (bit 64 x && l.v2ro) (bit 32 x && l.v3ro)
   rwel_is : w.0.latches.rwel ≡ false
 
@@ -88,7 +88,7 @@ module _ (l : Levels) (x : ℕ) (s : X9520) (low : l.wp ≡ false) (free : is_bu
           wipers = λ j. ap (λ w. x9520.tap w.0 0 j) job;
           wel_is = ap (λ w. w.0.latches.wel) job ∙ wel_is;
         };
-        free = ap (λ w. is_busy w.0.eeprom) job ∙ free_if (begins e) (λ i. begins_under e i ∙ rw (free_under s.eeprom free i) (unstages_staged s.eeprom i));
+        free = ap (λ w. is_busy w.0.eeprom) job ∙ free_if (begins e) (λ i. begins_under_way e i ∙ rw (free_under_way s.eeprom free i) (unstages_staged s.eeprom i));
         rwel_is = ap (λ w. w.0.latches.rwel) job ∙ rwel_is;
       }
 
@@ -105,8 +105,8 @@ module _ (l : Levels) (x : ℕ) (s : X9520) (low : l.wp ≡ false) (free : is_bu
           wipers = λ j. ap (λ w. x9520.tap w.0 0 j) job;
           wel_is = ap (λ w. w.0.latches.wel) job ∙ wel;
         };
-        under = λ i. ap (λ w. under_at w.0.eeprom i) job ∙ begins_under e i
-            ∙ rw (free_under s.eeprom free i) (stages_staged (unstages s.eeprom) 259 x i) ∙ ap (cond (eqb i 259) (Some x)) (unstages_staged s.eeprom i);
+        under_way = λ i. ap (λ w. under_way_at w.0.eeprom i) job ∙ begins_under_way e i
+            ∙ rw (free_under_way s.eeprom free i) (stages_staged (unstages s.eeprom) 259 x i) ∙ ap (cond (eqb i 259) (Some x)) (unstages_staged s.eeprom i);
         flags_are = ap (λ w. w.0.flags) job;
         rwel_is = ap (λ w. w.0.latches.rwel) job;
       }
@@ -128,7 +128,7 @@ module _ (l0 l1 : Levels) (s : X9520) (low : l0.wp ≡ false) (free : is_busy s.
   armed_refuses rwel =
       let w = register_job l0 2 s in
       let begun = beginning l0 2 s low free (enable_stored s.latches (stored_register s) rwel) (s.latches.ordered rwel) in
-      busy_refuses as_part moves l1 82 (255 ∷ (6 ∷ [])) w.0 (busy_if w.0.eeprom 259 2 (begun.under 259))
+      busy_refuses as_part moves l1 82 (255 ∷ (6 ∷ [])) w.0 (busy_if w.0.eeprom 259 2 (begun.under_way 259))
 
   disarmed_by : (rwel : Bool) → s.latches.rwel ≡ rwel → enable_and_arm ≡ ok [] → s.latches.rwel ≡ false
   disarmed_by true set accepted = let refuses = armed_refuses set in cc
@@ -186,12 +186,12 @@ shown_is l s x p q stored flags_are wel rwel = rw (stored, flags_are, wel, rwel)
 -- Once the cycle of a register byte is over it is stored, and the register shows it.
 module _ (s : X9520) (l : Levels) (x : ℕ) (w : X9520 × Told (List ℕ)) (begun : Begun s l x w) where
   over_stored : x9520.cell (over x9520 w.0) 0 259 ≡ x
-  over_stored = over_cell as_part moves w.0 259 ∙ ap (λ u. unwrap_or u (byte_at w.0.eeprom 259)) (begun.under 259)
+  over_stored = over_cell as_part moves w.0 259 ∙ ap (λ u. unwrap_or u (byte_at w.0.eeprom 259)) (begun.under_way 259)
 
   over_others : (i : ℕ) → i ≢ 259 → x9520.cell (over x9520 w.0) 0 i ≡ x9520.cell s 0 i
   over_others i other =
       over_cell as_part moves w.0 i
-      ∙ ap (λ u. unwrap_or u (byte_at w.0.eeprom i)) (begun.under i ∙ ap (λ here. cond here (Some x) None) (ne_eqb i 259 other))
+      ∙ ap (λ u. unwrap_or u (byte_at w.0.eeprom i)) (begun.under_way i ∙ ap (λ here. cond here (Some x) None) (ne_eqb i 259 other))
       ∙ begun.took.cells i
 
   over_wipers : (j : ℕ) → x9520.tap (over x9520 w.0) 0 j ≡ x9520.tap s 0 j

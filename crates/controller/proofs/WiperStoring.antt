@@ -6,9 +6,9 @@ use Rattle.std.specs.Option.{option_or}
 use Rattle.refusals.specs.Told.{Told, ok, refused}
 use Rattle.part.specs.declared.levels.Levels.{Levels}
 use Rattle.part.specs.declared.power.PowerCut.{PowerCut}
-use Rattle.eeprom.specs.Cells.{byte_at, staged_at, under_at, is_busy, unstages, cuts, marks}
+use Rattle.eeprom.specs.Cells.{byte_at, staged_at, under_way_at, is_busy, unstages, cuts, marks}
 use Rattle.eeprom.specs.declared.Eeprom.{Eeprom}
-use Rattle.eeprom.proofs.Moves.{free_if, stages_staged, unstages_staged, cuts_byte, cuts_under}
+use Rattle.eeprom.proofs.Moves.{free_if, stages_staged, unstages_staged, cuts_byte, cuts_under_way}
 use Rattle.dcp.specs.Taps.{byte_of, bytes as table, looked, Inverse}
 use Rattle.dcp.specs.Wiper.{at_byte, tap_of, entry_for, byte_for}
 use Rattle.dcp.specs.declared.dcp.Dcp.{Dcp}
@@ -30,7 +30,7 @@ use Rattle.x9520.proofs.Calm.{stop_begins, stop_byte}
 use Rattle.controller.specs.Storing.{dcp_byte, taps_of, Means}
 use Rattle.controller.specs.Work.{written}
 use Rattle.controller.proofs.Accepting.{free_if_accepted}
-use Rattle.controller.proofs.Over.{over, free_under, over_cell, over_ready, over_rest}
+use Rattle.controller.proofs.Over.{over, free_under_way, over_cell, over_ready, over_rest}
 use Rattle.controller.proofs.WiperReading.{at_mode, dcp_of, tap_is, names_dcp}
 
 -- A byte means the tap that it moves a wiper to.
@@ -76,7 +76,7 @@ record Wrote (s : X9520) (j : ℕ) (store : Bool) (v : ℕ) (t : X9520) : Type 0
   named : t.named ≡ j
   wel : t.latches.wel ≡ true
   byte : (i : ℕ) → byte_at t.eeprom i ≡ byte_at s.eeprom i
-  under : (i : ℕ) → under_at t.eeprom i ≡ cond (store && eqb i (256 + j)) (Some v) None
+  under_way : (i : ℕ) → under_way_at t.eeprom i ≡ cond (store && eqb i (256 + j)) (Some v) None
 
 staged_by : (store : Bool) (e : Eeprom 260) (n j v i : ℕ) → j < 3 → staged_at (cells_taken (moves store) (unstages e) n j v) i ≡ cond (store && eqb i (256 + j)) (Some v) None
 staged_by true e n j v i in_range = stages_staged (unstages e) (256 + j) v i ∙ rw (lt-ltb (256 + j) 260 (omega arith), unstages_staged e i) refl
@@ -121,8 +121,8 @@ module _ (l : Levels) (s : X9520) (j : ℕ) (store : Bool) (v : ℕ) where
           named = refl;
           wel = (and_parts _ _ opens).0;
           byte = λ i. stop_byte moving true l i ∙ rests.byte i;
-          under = λ i. stop_begins moving true l refl low i
-              ∙ ap (λ o. option_or o (staged_at moving.eeprom i)) (rests.under i ∙ free_under s.eeprom free i)
+          under_way = λ i. stop_begins moving true l refl low i
+              ∙ ap (λ o. option_or o (staged_at moving.eeprom i)) (rests.under_way i ∙ free_under_way s.eeprom free i)
               ∙ staged_by store s.eeprom s.counter j v i in_range;
         }
 
@@ -173,7 +173,7 @@ pub sound_cut : (s : X9520) (p : PowerCut) → Sound (x9520.cut s p)
 sound_cut s p = sound_by (x9520.cut s p) (lit< tt) (λ j h. subst (Whole j) (sym (powered_dcp (cuts s.eeprom p.mask) j h)) (at_byte_whole j _))
 
 pub cut_free : (s : X9520) (p : PowerCut) → x9520.busy (x9520.cut s p) 0 ≡ false
-cut_free s p = free_if (cuts s.eeprom p.mask) (cuts_under s.eeprom p.mask)
+cut_free s p = free_if (cuts s.eeprom p.mask) (cuts_under_way s.eeprom p.mask)
 
 -- what power-up stores in a cell, by whether the power cut lets a write under way be stored: with none under way its byte stays
 uncut_byte : (marked : Bool) (write : Option ℕ) (byte : ℕ) → write ≡ None → cond marked (unwrap_or write byte) byte ≡ byte
@@ -196,12 +196,12 @@ module _ (s : X9520) where
   sound_over sound = sound_by rested (rw (over_rest as_part s (λ s. s.named) (λ e. refl)) sound.named) (λ j h. rw dcps_rest (sound.taps j h, sound.registers j h))
 
   -- after a power cut each wiper stands at its stored byte
-  cut_byte : (m i : ℕ) → byte_at (cuts rested.eeprom m) i ≡ unwrap_or (under_at s.eeprom i) (byte_at s.eeprom i)
+  cut_byte : (m i : ℕ) → byte_at (cuts rested.eeprom m) i ≡ unwrap_or (under_way_at s.eeprom i) (byte_at s.eeprom i)
   cut_byte m i =
-      let none : under_at rested.eeprom i ≡ None = free_under rested.eeprom (over_ready as_part own_moves s) i in
+      let none : under_way_at rested.eeprom i ≡ None = free_under_way rested.eeprom (over_ready as_part own_moves s) i in
       cuts_byte rested.eeprom m i ∙ uncut_byte (marks m i) _ _ none ∙ over_cell as_part own_moves s i
 
-  cut_tap : (p : PowerCut) (j : ℕ) → j < 3 → x9520.tap (x9520.cut rested p) 0 j ≡ tap_of (at_byte (taps_of j) (unwrap_or (under_at s.eeprom (256 + j)) (byte_at s.eeprom (256 + j))))
+  cut_tap : (p : PowerCut) (j : ℕ) → j < 3 → x9520.tap (x9520.cut rested p) 0 j ≡ tap_of (at_byte (taps_of j) (unwrap_or (under_way_at s.eeprom (256 + j)) (byte_at s.eeprom (256 + j))))
   cut_tap p j h =
       let e = cuts rested.eeprom p.mask in
       tap_is (wipers_from e) j h ∙ ap tap_of (powered_dcp e j h) ∙ ap (λ b. tap_of (at_byte (taps_of j) b)) (cut_byte p.mask (256 + j))
@@ -221,10 +221,10 @@ module _ (l : Levels) (s : X9520) (j : ℕ) (store : Bool) (v : ℕ) (low : l.wp
 
   -- A byte that was not stored is gone after a power cut.
   pub wiper_falls_back : store ≡ false → (p : PowerCut) → Means (taps_of j) (x9520.cell s 0 (256 + j)) (x9520.tap (x9520.cut (over x9520 after) p) 0 j)
-  wiper_falls_back unstored p = rw (cut_tap after p j in_range, left.under (256 + j), left.byte (256 + j), unstored) (means j in_range (x9520.cell s 0 (256 + j)))
+  wiper_falls_back unstored p = rw (cut_tap after p j in_range, left.under_way (256 + j), left.byte (256 + j), unstored) (means j in_range (x9520.cell s 0 (256 + j)))
 
-  its_write : store ≡ true → under_at after.eeprom (256 + j) ≡ Some v
-  its_write stored = left.under (256 + j) ∙ rw (stored, eq-eqb (256 + j) (256 + j) refl) refl
+  its_write : store ≡ true → under_way_at after.eeprom (256 + j) ≡ Some v
+  its_write stored = left.under_way (256 + j) ∙ rw (stored, eq-eqb (256 + j) (256 + j) refl) refl
 
   -- Once its cycle is over the byte is stored, if it was to be, and no other is.
   pub wiper_holds : store ≡ true → x9520.cell (over x9520 after) 0 (256 + j) ≡ v
@@ -233,12 +233,12 @@ module _ (l : Levels) (s : X9520) (j : ℕ) (store : Bool) (v : ℕ) (low : l.wp
   pub wiper_cells : (i : ℕ) → (store ≡ true → i ≢ 256 + j) → x9520.cell (over x9520 after) 0 i ≡ x9520.cell s 0 i
   wiper_cells i other =
       over_cell as_part own_moves after i
-      ∙ ap (λ w. unwrap_or w (byte_at after.eeprom i)) (left.under i ∙ none_by store i (256 + j) v other)
+      ∙ ap (λ w. unwrap_or w (byte_at after.eeprom i)) (left.under_way i ∙ none_by store i (256 + j) v other)
       ∙ left.byte i
 
   -- a byte that is not stored starts no cycle
   pub wiper_free : store ≡ false → x9520.busy after 0 ≡ false
-  wiper_free unstored = free_if after.eeprom (λ i. left.under i ∙ rw unstored refl)
+  wiper_free unstored = free_if after.eeprom (λ i. left.under_way i ∙ rw unstored refl)
 
   pub wiper_wel : (over x9520 after).latches.wel ≡ true
   wiper_wel = over_rest as_part after (λ t. t.latches.wel) (λ e. refl) ∙ left.wel

@@ -19,7 +19,7 @@ module _ {S : Type 0} (ops : Ops S) where
   -- From the board b to the board c the chip with number k keeps its bytes, and what is under way in it.
   pub record Still (k : ℕ) (b c : Board S) : Type 0 where
     pub cell : (i : ℕ) → ops.cell c.part k i ≡ ops.cell b.part k i
-    pub under : (i : ℕ) → ops.under c.part k i ≡ ops.under b.part k i
+    pub under_way : (i : ℕ) → ops.under_way c.part k i ≡ ops.under_way b.part k i
     pub busy : ops.busy c.part k ≡ ops.busy b.part k
 
   -- its wipers stand

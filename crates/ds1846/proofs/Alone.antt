@@ -5,14 +5,14 @@ use Rattle.part.specs.declared.levels.Levels.{Levels}
 use Rattle.part.specs.Ops.{is}
 use Rattle.part.specs.Chips.{AlwaysChip}
 use Rattle.eeprom.specs.Cells.{is_busy}
-use Rattle.eeprom.proofs.Moves.{fresh_under, free_if}
+use Rattle.eeprom.proofs.Moves.{fresh_under_way, free_if}
 use Rattle.eeprom.proofs.OnePart.{always_part}
 use Rattle.ds1846.specs.declared.state.Ds1846.{Ds1846}
 use Rattle.ds1846.specs.Chip.{ds1846, as_part, fresh, heard_in, takes}
 use Rattle.ds1846.specs.Keeping.{writing_heard, moves}
 
 fresh_free : is_busy fresh.eeprom ≡ false
-fresh_free = free_if fresh.eeprom (fresh_under 256)
+fresh_free = free_if fresh.eeprom (fresh_under_way 256)
 
 -- a data byte gets an ACK only in a transfer for writing
 taken_heard : (s : Ds1846) (a : ℕ) (l : Levels) → takes s a l ≡ true → is a (heard_in s.mode) ≡ true

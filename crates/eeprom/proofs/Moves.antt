@@ -4,7 +4,7 @@ use Rattle.std.proofs.Common.{◌≡◌, ℕ, ◌<◌, Bool, true, false, cond, 
 use Rattle.std.specs.Option.{option_or}
 use Rattle.std.proofs.lemmas.Bool.{ltb-true, ltb-false, eqb-true}
 use Rattle.eeprom.specs.declared.Eeprom.{Eeprom}
-use Rattle.eeprom.specs.Cells.{place, table, byte_at, staged_at, under_at, marks, is_busy, all_fresh, stages, unstages, begins, finishes, cuts}
+use Rattle.eeprom.specs.Cells.{place, table, byte_at, staged_at, under_way_at, marks, is_busy, all_fresh, stages, unstages, begins, finishes, cuts}
 use Rattle.eeprom.proofs.Busy.{busy_at, busy_by}
 use Rattle.eeprom.proofs.Places.{place_table, place_none}
 
@@ -32,25 +32,25 @@ staged_by true m n b i ws e =
     (λ out. staged_here (eqb i n) n m i b (place m None ws i) refl (ltb-true n m e) out (rw out))
 staged_by false m n b i ws e = refl
 
-pub fresh_under : (N i : ℕ) → under_at {N = N} all_fresh i ≡ None
-fresh_under N i = place_none None N i
+pub fresh_under_way : (N i : ℕ) → under_way_at {N = N} all_fresh i ≡ None
+fresh_under_way N i = place_none None N i
 
 module _ {N : ℕ} (e : Eeprom N) where
   pub staged_in : (i v : ℕ) → staged_at e i ≡ Some v → i < N
   staged_in i v h = write_in N e.staged i v h
 
-  pub under_in : (i v : ℕ) → under_at e i ≡ Some v → i < N
-  under_in i v h = write_in N e.under i v h
+  pub under_way_in : (i v : ℕ) → under_way_at e i ≡ Some v → i < N
+  under_way_in i v h = write_in N e.under_way i v h
 
-  pub busy_if : (i v : ℕ) → under_at e i ≡ Some v → is_busy e ≡ true
-  busy_if i v h = busy_at e i v (under_in i v h) h
+  pub busy_if : (i v : ℕ) → under_way_at e i ≡ Some v → is_busy e ≡ true
+  busy_if i v h = busy_at e i v (under_way_in i v h) h
 
   -- with no write under way anywhere
-  free_by : (b : Bool) → is_busy e ≡ b → ((i : ℕ) → under_at e i ≡ None) → is_busy e ≡ false
+  free_by : (b : Bool) → is_busy e ≡ b → ((i : ℕ) → under_way_at e i ≡ None) → is_busy e ≡ false
   free_by true h n = let u = busy_by e h in let w = n u.0 in let f = u.1.1 in let z : ◌≡◌ {A = ℕ} 0 1 = cc in absurd (omega arith)
   free_by false h n = h
 
-  pub free_if : ((i : ℕ) → under_at e i ≡ None) → is_busy e ≡ false
+  pub free_if : ((i : ℕ) → under_way_at e i ≡ None) → is_busy e ≡ false
   free_if n = free_by (is_busy e) refl n
 
   pub stages_staged : (n b i : ℕ) → staged_at (stages e n b) i ≡ cond (ltb n N) (cond (eqb i n) (Some b) (staged_at e i)) (staged_at e i)
@@ -62,20 +62,20 @@ module _ {N : ℕ} (e : Eeprom N) where
   pub begins_staged : (i : ℕ) → staged_at (begins e) i ≡ None
   begins_staged i = place_none None N i
 
-  pub begins_under : (i : ℕ) → under_at (begins e) i ≡ option_or (under_at e i) (staged_at e i)
-  begins_under i = place_table (λ k. option_or (under_at e k) (staged_at e k)) None N i (λ out. rw out)
+  pub begins_under_way : (i : ℕ) → under_way_at (begins e) i ≡ option_or (under_way_at e i) (staged_at e i)
+  begins_under_way i = place_table (λ k. option_or (under_way_at e k) (staged_at e k)) None N i (λ out. rw out)
 
-  pub finishes_byte : (i : ℕ) → byte_at (finishes e) i ≡ unwrap_or (under_at e i) (byte_at e i)
-  finishes_byte i = place_table (λ k. unwrap_or (under_at e k) (byte_at e k)) 0 N i (λ out. rw out)
+  pub finishes_byte : (i : ℕ) → byte_at (finishes e) i ≡ unwrap_or (under_way_at e i) (byte_at e i)
+  finishes_byte i = place_table (λ k. unwrap_or (under_way_at e k) (byte_at e k)) 0 N i (λ out. rw out)
 
-  pub finishes_under : (i : ℕ) → under_at (finishes e) i ≡ None
-  finishes_under i = place_none None N i
+  pub finishes_under_way : (i : ℕ) → under_way_at (finishes e) i ≡ None
+  finishes_under_way i = place_none None N i
 
-  pub cuts_byte : (m i : ℕ) → byte_at (cuts e m) i ≡ cond (marks m i) (unwrap_or (under_at e i) (byte_at e i)) (byte_at e i)
-  cuts_byte m i = place_table (λ k. cond (marks m k) (unwrap_or (under_at e k) (byte_at e k)) (byte_at e k)) 0 N i (λ out. rw out (same (marks m i)))
+  pub cuts_byte : (m i : ℕ) → byte_at (cuts e m) i ≡ cond (marks m i) (unwrap_or (under_way_at e i) (byte_at e i)) (byte_at e i)
+  cuts_byte m i = place_table (λ k. cond (marks m k) (unwrap_or (under_way_at e k) (byte_at e k)) (byte_at e k)) 0 N i (λ out. rw out (same (marks m i)))
 
   pub cuts_staged : (m i : ℕ) → staged_at (cuts e m) i ≡ None
   cuts_staged m i = place_none None N i
 
-  pub cuts_under : (m i : ℕ) → under_at (cuts e m) i ≡ None
-  cuts_under m i = place_none None N i
+  pub cuts_under_way : (m i : ℕ) → under_way_at (cuts e m) i ≡ None
+  cuts_under_way m i = place_none None N i

@@ -7,10 +7,10 @@ use Rattle.std.proofs.lemmas.Bool.{eqb-true, ne_eqb, cond-false}
 use Rattle.part.specs.Ops.{Ops}
 use Rattle.part.specs.Keeps.{stored}
 use Rattle.eeprom.specs.declared.Eeprom.{Eeprom}
-use Rattle.eeprom.specs.Cells.{byte_at, staged_at, under_at, is_busy, stages, stopped, finishes}
+use Rattle.eeprom.specs.Cells.{byte_at, staged_at, under_way_at, is_busy, stages, stopped, finishes}
 use Rattle.eeprom.specs.OnePart.{of_part}
 use Rattle.eeprom.proofs.Busy.{busy_by}
-use Rattle.eeprom.proofs.Moves.{busy_if, stages_staged, unstages_staged, begins_staged, begins_under, finishes_byte, finishes_under}
+use Rattle.eeprom.proofs.Moves.{busy_if, stages_staged, unstages_staged, begins_staged, begins_under_way, finishes_byte, finishes_under_way}
 
 pub part_none : (q : Bool) (w : Option ℕ) → w ≡ None → cond q w None ≡ None
 part_none true w h = h
@@ -66,16 +66,16 @@ module _ {N : ℕ} (e : Eeprom N) where
   deaf_while_busy false t h = absurd (clash h)
 
   -- a clean STOP with WP LOW
-  pub begins_in : (q wp : Bool) (i : ℕ) → wp ≡ false → cond q (under_at (stopped (true && not wp) e) i) None ≡ option_or (cond q (under_at e i) None) (cond q (staged_at e i) None)
+  pub begins_in : (q wp : Bool) (i : ℕ) → wp ≡ false → cond q (under_way_at (stopped (true && not wp) e) i) None ≡ option_or (cond q (under_way_at e i) None) (cond q (staged_at e i) None)
   begins_in true true i h = absurd (clash (sym h))
-  begins_in true false i h = begins_under e i
+  begins_in true false i h = begins_under_way e i
   begins_in false wp i h = refl
 
-  pub busy_of : (q : Bool) (i v : ℕ) → cond q (under_at e i) None ≡ Some v → cond q (is_busy e) false ≡ true
+  pub busy_of : (q : Bool) (i v : ℕ) → cond q (under_way_at e i) None ≡ Some v → cond q (is_busy e) false ≡ true
   busy_of true i v h = busy_if e i v h
   busy_of false i v h = let z : ◌≡◌ {A = ℕ} 0 1 = cc in absurd (omega arith)
 
-  pub busy_from : (q : Bool) → cond q (is_busy e) false ≡ true → (i : ℕ) × ((v : ℕ) × (cond q (under_at e i) None ≡ Some v))
+  pub busy_from : (q : Bool) → cond q (is_busy e) false ≡ true → (i : ℕ) × ((v : ℕ) × (cond q (under_way_at e i) None ≡ Some v))
   busy_from true h = busy_by e h
   busy_from false h = absurd (clash h)
 
@@ -92,20 +92,20 @@ module _ {N : ℕ} (e : Eeprom N) where
   stopped_staged true i = begins_staged e i
   stopped_staged false i = unstages_staged e i
 
-  pub stopped_under : (clean wp : Bool) (k i : ℕ) → (of_part k (under_at (stopped (clean && not wp) e) i) None ≡ of_part k (under_at e i) None)
-      ⊎ ((of_part k (under_at e i) None ≡ None) × (clean ≡ true) × (wp ≡ false)
-      × (of_part k (under_at (stopped (clean && not wp) e) i) None ≡ of_part k (staged_at e i) None))
-  stopped_under true true k i = inl refl
-  stopped_under true false k i = begun (eqb k 0) (under_at e i) (staged_at e i) _ (begins_under e i)
-  stopped_under false wp k i = inl refl
+  pub stopped_under_way : (clean wp : Bool) (k i : ℕ) → (of_part k (under_way_at (stopped (clean && not wp) e) i) None ≡ of_part k (under_way_at e i) None)
+      ⊎ ((of_part k (under_way_at e i) None ≡ None) × (clean ≡ true) × (wp ≡ false)
+      × (of_part k (under_way_at (stopped (clean && not wp) e) i) None ≡ of_part k (staged_at e i) None))
+  stopped_under_way true true k i = inl refl
+  stopped_under_way true false k i = begun (eqb k 0) (under_way_at e i) (staged_at e i) _ (begins_under_way e i)
+  stopped_under_way false wp k i = inl refl
 
   -- a finish of the part that q means
-  pub finish_stores : {S : Type 0} (ops : Ops S) (q : Bool) (i : ℕ) → cond q (byte_at (cond q (finishes e) e) i) 0 ≡ stored ops (cond q (under_at e i) None) (cond q (byte_at e i) 0)
-  finish_stores ops true i = finishes_byte e i ∙ value_stored ops (under_at e i) (byte_at e i)
+  pub finish_stores : {S : Type 0} (ops : Ops S) (q : Bool) (i : ℕ) → cond q (byte_at (cond q (finishes e) e) i) 0 ≡ stored ops (cond q (under_way_at e i) None) (cond q (byte_at e i) 0)
+  finish_stores ops true i = finishes_byte e i ∙ value_stored ops (under_way_at e i) (byte_at e i)
   finish_stores ops false i = refl
 
-  pub finish_ends : (q : Bool) (i : ℕ) → cond q (under_at (cond q (finishes e) e) i) None ≡ None
-  finish_ends true i = finishes_under e i
+  pub finish_ends : (q : Bool) (i : ℕ) → cond q (under_way_at (cond q (finishes e) e) i) None ≡ None
+  finish_ends true i = finishes_under_way e i
   finish_ends false i = refl
 
   pub finish_staged : (q : Bool) (i : ℕ) → staged_at (cond q (finishes e) e) i ≡ staged_at e i

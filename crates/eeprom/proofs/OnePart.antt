@@ -9,15 +9,15 @@ use Rattle.part.specs.Keeps.{Keeps, Shape, Fixed, Lasting, Unstaged, UnstagedAt,
 use Rattle.part.specs.Chips.{AlwaysChip}
 use Rattle.part.proofs.Busy.{Shows, always_chip}
 use Rattle.eeprom.specs.declared.Eeprom.{Eeprom}
-use Rattle.eeprom.specs.Cells.{byte_at, staged_at, under_at, is_busy, stages, unstages, stopped, finishes, cuts}
+use Rattle.eeprom.specs.Cells.{byte_at, staged_at, under_way_at, is_busy, stages, unstages, stopped, finishes, cuts}
 use Rattle.eeprom.specs.OnePart.{OnePart, of_part, hears_at, part_of}
-use Rattle.eeprom.proofs.Moves.{staged_in, under_in, unstages_staged, cuts_byte, cuts_staged, cuts_under}
-use Rattle.eeprom.proofs.Numbered.{part_none, other_part, owned, write_of, busy_of, busy_from, stopped_byte, stopped_staged, stopped_under, finish_stores, finish_ends, finish_staged, elsewhere, cut_stores, apart, deaf_while_busy, begins_in, never_busy}
+use Rattle.eeprom.proofs.Moves.{staged_in, under_way_in, unstages_staged, cuts_byte, cuts_staged, cuts_under_way}
+use Rattle.eeprom.proofs.Numbered.{part_none, other_part, owned, write_of, busy_of, busy_from, stopped_byte, stopped_staged, stopped_under_way, finish_stores, finish_ends, finish_staged, elsewhere, cut_stores, apart, deaf_while_busy, begins_in, never_busy}
 
 -- no stored byte changes, and no write under way comes, goes or changes
 pub record Rests {N : ℕ} (e f : Eeprom N) : Type 0 where
   pub byte : (i : ℕ) → byte_at f i ≡ byte_at e i
-  pub under : (i : ℕ) → under_at f i ≡ under_at e i
+  pub under_way : (i : ℕ) → under_way_at f i ≡ under_way_at e i
 
 one_byte : (o : Option ℕ) (x y : ℕ) → is x o ≡ true → is y o ≡ true → x ≡ y
 one_byte None x y h g = absurd (clash h)
@@ -25,13 +25,13 @@ one_byte (Some z) x y h g = sym (eqb-true z x h) ∙ eqb-true z y g
 
 module _ {N : ℕ} (e : Eeprom N) where
   pub rests : Rests e e
-  rests = record { byte = λ i. refl; under = λ i. refl }
+  rests = record { byte = λ i. refl; under_way = λ i. refl }
 
   pub unstages_rests : Rests e (unstages e)
-  unstages_rests = record { byte = λ i. refl; under = λ i. refl }
+  unstages_rests = record { byte = λ i. refl; under_way = λ i. refl }
 
   pub stages_rests : (n b : ℕ) → Rests e (stages e n b)
-  stages_rests n b = record { byte = λ i. refl; under = λ i. refl }
+  stages_rests n b = record { byte = λ i. refl; under_way = λ i. refl }
 
 module _ {S : Type 0} {N : ℕ} (c : OnePart S N) where
   pub fixed : (s t : S) → Fixed (part_of c) s t
@@ -45,7 +45,7 @@ module _ {S : Type 0} {N : ℕ} (c : OnePart S N) where
   }
 
   pub lasting : (s t : S) → Rests (c.eeprom s) (c.eeprom t) → Lasting (part_of c) s t
-  lasting s t r = record { cell = λ k i. ap (λ v. of_part k v 0) (r.byte i); under = λ k i. ap (λ v. of_part k v None) (r.under i) }
+  lasting s t r = record { cell = λ k i. ap (λ v. of_part k v 0) (r.byte i); under_way = λ k i. ap (λ v. of_part k v None) (r.under_way i) }
 
   pub unstaged : (t : S) → ((i : ℕ) → staged_at (c.eeprom t) i ≡ None) → Unstaged (part_of c) t
   unstaged t h k i = part_none (eqb k 0) _ (h i)
@@ -99,7 +99,7 @@ module _ {S : Type 0} {N : ℕ} (c : OnePart S N) where
     cells_in = λ k h. other_part k 0 N h;
     wipers_in = λ k h. other_part k 0 c.wipers h;
     staged_in = λ k i v h. write_of N (eqb k 0) _ i v (staged_in (c.eeprom s) i v) h;
-    under_in = λ k i v h. write_of N (eqb k 0) _ i v (under_in (c.eeprom s) i v) h;
+    under_way_in = λ k i v h. write_of N (eqb k 0) _ i v (under_way_in (c.eeprom s) i v) h;
     busy_if = λ k i v h. busy_of (c.eeprom s) (eqb k 0) i v h;
     busy_by = λ k h. busy_from (c.eeprom s) (eqb k 0) h;
     hears_has = λ x h. (and_parts _ _ h).0;
@@ -114,7 +114,7 @@ module _ {S : Type 0} {N : ℕ} (c : OnePart S N) where
       record {
         fixed = fixed s t;
         cell = λ k i. ap (λ v. of_part k v 0) (ap (λ f. byte_at f i) e ∙ stopped_byte (c.eeprom s) b i);
-        under = λ k i. rw e (stopped_under (c.eeprom s) clean l.wp k i);
+        under_way = λ k i. rw e (stopped_under_way (c.eeprom s) clean l.wp k i);
         unstaged = unstaged t (λ i. ap (λ f. staged_at f i) e ∙ stopped_staged (c.eeprom s) b i);
         forgets = ended s t h;
       }
@@ -130,7 +130,7 @@ module _ {S : Type 0} {N : ℕ} (c : OnePart S N) where
         fixed = fixed s t;
         marked = λ k i m. cut_stores (part_of c) (eqb k 0) _ _ _ (byte i ∙ cond-true _ _ _ (eq-eqb (p.mask / 2 ^ (i % 16) % 2) 1 m));
         unmarked = λ k i m. ap (λ v. of_part k v 0) (byte i ∙ cond-false _ _ _ (ne_eqb (p.mask / 2 ^ (i % 16) % 2) 1 m));
-        ends = λ k i. part_none (eqb k 0) _ (ap (λ f. under_at f i) e ∙ cuts_under (c.eeprom s) p.mask i);
+        ends = λ k i. part_none (eqb k 0) _ (ap (λ f. under_way_at f i) e ∙ cuts_under_way (c.eeprom s) p.mask i);
         unstaged = unstaged t (λ i. ap (λ f. staged_at f i) e ∙ cuts_staged (c.eeprom s) p.mask i);
         unheard = silent t h;
       }
@@ -203,11 +203,11 @@ module _ {S : Type 0} {N : ℕ} (c : OnePart S N) (m : OwnMoves c) where
       record {
         fixed = fixed c s _;
         stores = λ i. ap (λ g. of_part q (byte_at g i) 0) put ∙ finish_stores e (part_of c) (eqb q 0) i;
-        ends = λ i. ap (λ g. of_part q (under_at g i) None) put ∙ finish_ends e (eqb q 0) i;
+        ends = λ i. ap (λ g. of_part q (under_way_at g i) None) put ∙ finish_ends e (eqb q 0) i;
         fades = λ k i. inl (ap (λ g. of_part k (staged_at g i) None) put ∙ ap (λ w. of_part k w None) (finish_staged e (eqb q 0) i));
         forgets = stays c s _ (m.put_heard s f);
         other_cell = λ k i h. ap (λ g. of_part k (byte_at g i) 0) put ∙ elsewhere e (λ g. byte_at g i) 0 (eqb k 0) (eqb q 0) (apart k q h);
-        other_under = λ k i h. ap (λ g. of_part k (under_at g i) None) put ∙ elsewhere e (λ g. under_at g i) None (eqb k 0) (eqb q 0) (apart k q h);
+        other_under_way = λ k i h. ap (λ g. of_part k (under_way_at g i) None) put ∙ elsewhere e (λ g. under_way_at g i) None (eqb k 0) (eqb q 0) (apart k q h);
         other_staged = λ k i h. ap (λ g. of_part k (staged_at g i) None) put ∙ elsewhere e (λ g. staged_at g i) None (eqb k 0) (eqb q 0) (apart k q h);
         other_tap = λ k j h. elsewhere e (λ g. c.tap (c.with_eeprom s g) j) 0 (eqb k 0) (eqb q 0) (apart k q h) ∙ ap (λ t. of_part k (c.tap t j) 0) back;
       }
@@ -239,7 +239,7 @@ module _ {S : Type 0} {N : ℕ} (c : OnePart S N) (m : OwnMoves c) where
     takes_heard = heard;
     hangs_up = λ s clean l x. ap (is x) (m.stop s clean l).heard;
     renews_free = λ s k. never_busy (eqb k 0) _ free;
-    begins_all = λ s l k i low. ap (λ f. of_part k (under_at f i) None) (m.stop s true l).eeprom ∙ begins_in (c.eeprom s) (eqb k 0) l.wp i low;
+    begins_all = λ s l k i low. ap (λ f. of_part k (under_way_at f i) None) (m.stop s true l).eeprom ∙ begins_in (c.eeprom s) (eqb k 0) l.wp i low;
   }
 
   pub always_part : ((s : S) (a : ℕ) (l : Levels) (x : ℕ) → c.takes s a l x ≡ true → is a (c.heard s) ≡ true) → is_busy (c.eeprom c.fresh) ≡ false → AlwaysChip (part_of c) c.fresh

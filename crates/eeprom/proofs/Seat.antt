@@ -15,7 +15,7 @@ module _ {S : Type 0} {N : ℕ} (c : OnePart S N) (m : OwnMoves c) where
       offset = λ i. refl;
       cell = λ i. refl;
       staged = λ i. refl;
-      under = λ i. refl;
+      under_way = λ i. refl;
       busy = refl;
       tap = λ j. refl;
     };

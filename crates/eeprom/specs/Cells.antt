@@ -25,8 +25,8 @@ module _ {N : ℕ} where
   abbrev pub staged_at : Eeprom N → ℕ → Option ℕ
   staged_at e = place N None e.staged
 
-  abbrev pub under_at : Eeprom N → ℕ → Option ℕ
-  under_at e = place N None e.under
+  abbrev pub under_way_at : Eeprom N → ℕ → Option ℕ
+  under_way_at e = place N None e.under_way
 
 -- the writes with one of b to place n, where there is such a place
 abbrev pub with_write : ℕ → List (Option ℕ) → ℕ → ℕ → List (Option ℕ)
@@ -38,29 +38,29 @@ marks m i = m / 2 ^ (i % 16) % 2 == 1
 
 module _ {N : ℕ} where
   abbrev pub is_busy : Eeprom N → Bool
-  is_busy e = list_any is_some (table N (under_at e))
+  is_busy e = list_any is_some (table N (under_way_at e))
 
   abbrev pub all_fresh : Eeprom N
-  all_fresh = record { bytes = all_of N 0; staged = all_of N None; under = all_of N None }
+  all_fresh = record { bytes = all_of N 0; staged = all_of N None; under_way = all_of N None }
 
   abbrev pub stages : Eeprom N → ℕ → ℕ → Eeprom N
   stages e n b = record {
     bytes = e.bytes;
     staged = with_write N e.staged n b;
-    under = e.under;
+    under_way = e.under_way;
   }
 
   abbrev pub unstages : Eeprom N → Eeprom N
-  unstages e = record { bytes = e.bytes; staged = all_of N None; under = e.under }
+  unstages e = record { bytes = e.bytes; staged = all_of N None; under_way = e.under_way }
 
   abbrev pub ends : Eeprom N → Eeprom N
-  ends e = record { bytes = e.bytes; staged = e.staged; under = all_of N None }
+  ends e = record { bytes = e.bytes; staged = e.staged; under_way = all_of N None }
 
   abbrev pub begins : Eeprom N → Eeprom N
   begins e = record {
     bytes = e.bytes;
     staged = all_of N None;
-    under = table N (λ i. option_or (under_at e i) (staged_at e i));
+    under_way = table N (λ i. option_or (under_way_at e i) (staged_at e i));
   }
 
   -- a STOP at which the writes staged begin, or are dropped
@@ -70,14 +70,14 @@ module _ {N : ℕ} where
 
   abbrev pub finishes : Eeprom N → Eeprom N
   finishes e = record {
-    bytes = table N (λ i. unwrap_or (under_at e i) (byte_at e i));
+    bytes = table N (λ i. unwrap_or (under_way_at e i) (byte_at e i));
     staged = e.staged;
-    under = all_of N None;
+    under_way = all_of N None;
   }
 
   abbrev pub cuts : Eeprom N → ℕ → Eeprom N
   cuts e m = record {
-    bytes = table N (λ i. cond (marks m i) (unwrap_or (under_at e i) (byte_at e i)) (byte_at e i));
+    bytes = table N (λ i. cond (marks m i) (unwrap_or (under_way_at e i) (byte_at e i)) (byte_at e i));
     staged = all_of N None;
-    under = all_of N None;
+    under_way = all_of N None;
   }

@@ -5,7 +5,7 @@ use Rattle.part.specs.declared.levels.Levels.{Levels}
 use Rattle.part.specs.declared.power.PowerCut.{PowerCut}
 use Rattle.part.specs.Ops.{Ops, is}
 use Rattle.eeprom.specs.declared.Eeprom.{Eeprom}
-use Rattle.eeprom.specs.Cells.{byte_at, staged_at, under_at, is_busy, finishes}
+use Rattle.eeprom.specs.Cells.{byte_at, staged_at, under_way_at, is_busy, finishes}
 
 -- what holds of part 0, or of any other
 abbrev pub of_part : {A : Type 0} → ℕ → A → A → A
@@ -49,7 +49,7 @@ module _ {S : Type 0} {N : ℕ} (c : OnePart S N) where
     offset = λ s k i. i % 16;
     cell = λ s k i. of_part k (byte_at (c.eeprom s) i) 0;
     staged = λ s k i. of_part k (staged_at (c.eeprom s) i) None;
-    under = λ s k i. of_part k (under_at (c.eeprom s) i) None;
+    under_way = λ s k i. of_part k (under_way_at (c.eeprom s) i) None;
     busy = λ s k. of_part k (is_busy (c.eeprom s)) false;
     tap = λ s k j. of_part k (c.tap s j) 0;
     heard = λ s x. is x (c.heard s);

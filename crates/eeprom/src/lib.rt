@@ -3,7 +3,7 @@
 
 ghost use Rattle.std.specs.Prelude.{◌≡◌, if◌then◌else◌, Some, cond, nat_lt};
 ghost use Rattle.std.specs.Option.{unwrap_or};
-ghost use Rattle.eeprom.specs.Cells.{byte_at, staged_at, under_at, is_busy, marks, all_fresh, stages, unstages, ends, begins, stopped, finishes, cuts};
+ghost use Rattle.eeprom.specs.Cells.{byte_at, staged_at, under_way_at, is_busy, marks, all_fresh, stages, unstages, ends, begins, stopped, finishes, cuts};
 
 pub mod pages;
 pub mod parts;
@@ -19,7 +19,7 @@ use writes::Writes;
 pub struct Eeprom<const N: usize> {
     bytes: [u8; N],
     staged: Writes<N>,
-    under: Writes<N>,
+    under_way: Writes<N>,
 }
 
 impl<const N: usize> Eeprom<N> {
@@ -30,7 +30,7 @@ impl<const N: usize> Eeprom<N> {
         Eeprom {
             bytes: [0; N],
             staged: Writes::none(),
-            under: Writes::none(),
+            under_way: Writes::none(),
         }
     }
 
@@ -47,16 +47,16 @@ impl<const N: usize> Eeprom<N> {
     }
 
     pub fn under_way(&self, n: usize) -> Option<u8>
-        ensures { result ≡ under_at self.now n }
+        ensures { result ≡ under_way_at self.now n }
     {
-        self.under.get(n)
+        self.under_way.get(n)
     }
 
     // Whether some write is under way.
     pub fn busy(&self) -> bool
         ensures { result ≡ is_busy self.now }
     {
-        self.under.any()
+        self.under_way.any()
     }
 
     // Stages a byte for a cell, in the place of an earlier one; where there is no such cell, nothing.
@@ -76,7 +76,7 @@ impl<const N: usize> Eeprom<N> {
     fn end(&mut self)
         ensures { self.new ≡ ends self.old }
     {
-        self.under.clear();
+        self.under_way.clear();
     }
 
     // At a STOP all that is staged comes under way, or is dropped.
@@ -94,13 +94,13 @@ impl<const N: usize> Eeprom<N> {
     pub fn begin(&mut self)
         ensures { self.new ≡ begins self.old }
     {
-        self.under.fill_from(&self.staged);
+        self.under_way.fill_from(&self.staged);
         self.unstage();
     }
 
     // The byte of a cell once a write under way to it is stored, where it is to be.
     fn settled(&self, n: usize, stores: bool) -> u8
-        ensures { result ≡ cond stores (unwrap_or (under_at self.now n) (byte_at self.now n)) (byte_at self.now n) }
+        ensures { result ≡ cond stores (unwrap_or (under_way_at self.now n) (byte_at self.now n)) (byte_at self.now n) }
     {
         let byte = self.byte(n).unwrap_or(0);
         if stores {
@@ -116,7 +116,7 @@ impl<const N: usize> Eeprom<N> {
     {
         self.bytes = array::from_fn(
             |n|
-                ensures { result ≡ unwrap_or (under_at self.entry.now n) (byte_at self.entry.now n) }
+                ensures { result ≡ unwrap_or (under_way_at self.entry.now n) (byte_at self.entry.now n) }
             { self.settled(n, true) },
         );
         self.end();
@@ -128,7 +128,7 @@ impl<const N: usize> Eeprom<N> {
     {
         self.bytes = array::from_fn(
             |n|
-                ensures { result ≡ cond (marks mask n) (unwrap_or (under_at self.entry.now n) (byte_at self.entry.now n)) (byte_at self.entry.now n) }
+                ensures { result ≡ cond (marks mask n) (unwrap_or (under_way_at self.entry.now n) (byte_at self.entry.now n)) (byte_at self.entry.now n) }
             { self.settled(n, (mask >> (n % 16)) % 2 == 1) },
         );
         self.end();

@@ -73,7 +73,7 @@ module _ {A B : Type 0} (a : Ops A) (b : Ops B) where
           offset = λ i. rw e (w.offset i);
           cell = λ i. rw e (w.cell i);
           staged = λ i. rw e (w.staged i);
-          under = λ i. rw e (w.under i);
+          under_way = λ i. rw e (w.under_way i);
           busy = rw e w.busy;
           tap = λ j. rw e (w.tap j);
         }
@@ -145,7 +145,7 @@ module _ {A B : Type 0} (a : Ops A) (b : Ops B) where
           offset = λ i. rw (e, f) (w.offset i);
           cell = λ i. rw (e, f) (w.cell i);
           staged = λ i. rw (e, f) (w.staged i);
-          under = λ i. rw (e, f) (w.under i);
+          under_way = λ i. rw (e, f) (w.under_way i);
           busy = rw (e, f) w.busy;
           tap = λ j. rw (e, f) (w.tap j);
         }

@@ -44,7 +44,7 @@ module _ {A B : Type 0} (a : Ops A) (b : Ops B) where
     offset = numbered a.offset b.offset;
     cell = numbered a.cell b.cell;
     staged = numbered a.staged b.staged;
-    under = numbered a.under b.under;
+    under_way = numbered a.under_way b.under_way;
     busy = numbered a.busy b.busy;
     tap = numbered a.tap b.tap;
     heard = λ s x. a.heard s.first x || b.heard s.second x;

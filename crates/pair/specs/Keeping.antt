@@ -45,9 +45,9 @@ module _ {A B : Type 0} (a : Ops A) (b : Ops B) (ka : Keeps a) (kb : Keeps b) wh
         cells_in = λ k h. at_number a b (λ u. u.cells ≡ 0) s k (λ lt. absurd (omega arith)) (λ le. q.cells_in _ (omega arith));
         wipers_in = λ k h. at_number a b (λ u. u.wipers ≡ 0) s k (λ lt. absurd (omega arith)) (λ le. q.wipers_in _ (omega arith));
         staged_in = λ k i v. at_number a b (λ u. u.staged i ≡ Some v → i < u.cells) s k (λ _. p.staged_in k i v) (λ _. q.staged_in _ i v);
-        under_in = λ k i v. at_number a b (λ u. u.under i ≡ Some v → i < u.cells) s k (λ _. p.under_in k i v) (λ _. q.under_in _ i v);
-        busy_if = λ k i v. at_number a b (λ u. u.under i ≡ Some v → u.busy ≡ true) s k (λ _. p.busy_if k i v) (λ _. q.busy_if _ i v);
-        busy_by = λ k. at_number a b (λ u. u.busy ≡ true → (i : ℕ) × ((v : ℕ) × (u.under i ≡ Some v))) s k (λ _. p.busy_by k) (λ _. q.busy_by _);
+        under_way_in = λ k i v. at_number a b (λ u. u.under_way i ≡ Some v → i < u.cells) s k (λ _. p.under_way_in k i v) (λ _. q.under_way_in _ i v);
+        busy_if = λ k i v. at_number a b (λ u. u.under_way i ≡ Some v → u.busy ≡ true) s k (λ _. p.busy_if k i v) (λ _. q.busy_if _ i v);
+        busy_by = λ k. at_number a b (λ u. u.busy ≡ true → (i : ℕ) × ((v : ℕ) × (u.under_way i ≡ Some v))) s k (λ _. p.busy_by k) (λ _. q.busy_by _);
         hears_has = λ x h. hears_has (for_first a b s x) s x h;
       }
 
@@ -157,7 +157,7 @@ module _ {A B : Type 0} (a : Ops A) (b : Ops B) (ka : Keeps a) (kb : Keeps b) wh
       record {
         fixed = fixed_both a b s t p.fixed q.fixed;
         cell = λ k i. by_number a b (λ u v. v.cell i ≡ u.cell i) s t k c (λ _. p.cell k i) (λ _. q.cell _ i);
-        under = λ k i. by_number a b (λ u v. (v.under i ≡ u.under i) ⊎ ((u.under i ≡ None) × (clean ≡ true) × (l.wp ≡ false) × (v.under i ≡ u.staged i))) s t k c (λ _. p.under k i) (λ _. q.under _ i);
+        under_way = λ k i. by_number a b (λ u v. (v.under_way i ≡ u.under_way i) ⊎ ((u.under_way i ≡ None) × (clean ≡ true) × (l.wp ≡ false) × (v.under_way i ≡ u.staged i))) s t k c (λ _. p.under_way k i) (λ _. q.under_way _ i);
         unstaged = unstaged_both a b t p.unstaged q.unstaged;
         forgets = forgets_both a b s t p.forgets q.forgets;
       }
@@ -184,12 +184,12 @@ module _ {A B : Type 0} (a : Ops A) (b : Ops B) (ka : Keeps a) (kb : Keeps b) wh
       let h = in_first a b s m in
       record {
         fixed = one_fixed a b h _ _ s p.fixed q.fixed;
-        stores = λ i. finish_at h (λ u v. v.cell i ≡ stored (both a b) (u.under i) (u.cell i)) s m refl (p.stores i) (q.stores i);
-        ends = λ i. finish_at h (λ u v. v.under i ≡ None) s m refl (p.ends i) (q.ends i);
+        stores = λ i. finish_at h (λ u v. v.cell i ≡ stored (both a b) (u.under_way i) (u.cell i)) s m refl (p.stores i) (q.stores i);
+        ends = λ i. finish_at h (λ u v. v.under_way i ≡ None) s m refl (p.ends i) (q.ends i);
         fades = one_fades a b h _ _ s p.fixed p.fades q.fades;
         forgets = one_forgets a b h _ _ s p.forgets q.forgets;
         other_cell = λ k i d. finish_off h (λ u v. v.cell i ≡ u.cell i) s m k refl d (λ u. refl) (p.other_cell k i d) (q.other_cell _ i);
-        other_under = λ k i d. finish_off h (λ u v. v.under i ≡ u.under i) s m k refl d (λ u. refl) (p.other_under k i d) (q.other_under _ i);
+        other_under_way = λ k i d. finish_off h (λ u v. v.under_way i ≡ u.under_way i) s m k refl d (λ u. refl) (p.other_under_way k i d) (q.other_under_way _ i);
         other_staged = λ k i d. finish_off h (λ u v. v.staged i ≡ u.staged i) s m k refl d (λ u. refl) (p.other_staged k i d) (q.other_staged _ i);
         other_tap = λ k j d. finish_off h (λ u v. v.tap j ≡ u.tap j) s m k refl d (λ u. refl) (p.other_tap k j d) (q.other_tap _ j);
       }
@@ -202,9 +202,9 @@ module _ {A B : Type 0} (a : Ops A) (b : Ops B) (ka : Keeps a) (kb : Keeps b) wh
       let c = p.fixed.count in
       record {
         fixed = fixed_both a b s t p.fixed q.fixed;
-        marked = λ k i. by_number a b (λ u v. Marked (both a b) power.mask (u.offset i) → v.cell i ≡ stored (both a b) (u.under i) (u.cell i)) s t k c (λ _. p.marked k i) (λ _. q.marked _ i);
+        marked = λ k i. by_number a b (λ u v. Marked (both a b) power.mask (u.offset i) → v.cell i ≡ stored (both a b) (u.under_way i) (u.cell i)) s t k c (λ _. p.marked k i) (λ _. q.marked _ i);
         unmarked = λ k i. by_number a b (λ u v. (Marked (both a b) power.mask (u.offset i) → ⊥) → v.cell i ≡ u.cell i) s t k c (λ _. p.unmarked k i) (λ _. q.unmarked _ i);
-        ends = λ k i. at_number a b (λ u. u.under i ≡ None) t k (λ _. p.ends k i) (λ _. q.ends _ i);
+        ends = λ k i. at_number a b (λ u. u.under_way i ≡ None) t k (λ _. p.ends k i) (λ _. q.ends _ i);
         unstaged = unstaged_both a b t p.unstaged q.unstaged;
         unheard = λ x. or_from _ _ (p.unheard x) (q.unheard x);
       }

@@ -21,7 +21,7 @@ fixed_self o s = record {
 }
 
 lasting_self : {S : Type 0} (o : Ops S) (s : S) → Lasting o s s
-lasting_self o s = record { cell = λ k i. refl; under = λ k i. refl }
+lasting_self o s = record { cell = λ k i. refl; under_way = λ k i. refl }
 
 module _ {A B : Type 0} (a : Ops A) (b : Ops B) where
   -- both parts move; the first's count stays, so that a number means the same part before and after
@@ -38,7 +38,7 @@ module _ {A B : Type 0} (a : Ops A) (b : Ops B) where
   lasting_both : (s t : Pair A B) → Fixed a s.first t.first → Lasting a s.first t.first → Lasting b s.second t.second → Lasting (both a b) s t
   lasting_both s t c p q = record {
     cell = λ k i. by_number a b (λ u v. v.cell i ≡ u.cell i) s t k c.count (λ _. p.cell k i) (λ _. q.cell _ i);
-    under = λ k i. by_number a b (λ u v. v.under i ≡ u.under i) s t k c.count (λ _. p.under k i) (λ _. q.under _ i);
+    under_way = λ k i. by_number a b (λ u v. v.under_way i ≡ u.under_way i) s t k c.count (λ _. p.under_way k i) (λ _. q.under_way _ i);
   }
 
   pub fades_both : (s t : Pair A B) → Fixed a s.first t.first → Fades a s.first t.first → Fades b s.second t.second → Fades (both a b) s t

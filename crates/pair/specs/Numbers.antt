@@ -13,7 +13,7 @@ pub record Seen : Type 0 where
   pub offset : ℕ → ℕ
   pub cell : ℕ → ℕ
   pub staged : ℕ → Option ℕ
-  pub under : ℕ → Option ℕ
+  pub under_way : ℕ → Option ℕ
   pub busy : Bool
   pub tap : ℕ → ℕ
 
@@ -24,7 +24,7 @@ seen o s k = record {
   offset = o.offset s k;
   cell = o.cell s k;
   staged = o.staged s k;
-  under = o.under s k;
+  under_way = o.under_way s k;
   busy = o.busy s k;
   tap = o.tap s k;
 }

@@ -45,7 +45,7 @@ module _ {S : Type 0} (b : Bare S) where
   fixed s t = record { count = refl; has = λ a. refl; owner = λ a. refl; cells = λ k. refl; wipers = λ k. refl; offset = λ k i. refl }
 
   lasting : (s t : S) → Lasting (bare_part b) s t
-  lasting s t = record { cell = λ k i. refl; under = λ k i. refl }
+  lasting s t = record { cell = λ k i. refl; under_way = λ k i. refl }
 
   calm : (s t : S) → Stays s t → Calm (bare_part b) s t
   calm s t h = record { fixed = fixed s t; lasting = lasting s t; fades = λ k i. inl refl; forgets = forgets s t h }
@@ -58,7 +58,7 @@ module _ {S : Type 0} (b : Bare S) where
     cells_in = λ k h. refl;
     wipers_in = λ k h. refl;
     staged_in = λ k i v h. absurd (none-some v h);
-    under_in = λ k i v h. absurd (none-some v h);
+    under_way_in = λ k i v h. absurd (none-some v h);
     busy_if = λ k i v h. absurd (none-some v h);
     busy_by = λ k h. absurd (clash h);
     hears_has = m.hears s;
@@ -98,7 +98,7 @@ module _ {S : Type 0} (b : Bare S) where
     };
     gives = λ s a. record { calm = calm s _ (m.give s a); still = λ k j. refl };
     levels = λ s l. record { calm = calm s _ (inl refl); still = λ k j. refl };
-    stops = λ s clean l. record { fixed = fixed s _; cell = λ k i. refl; under = λ k i. inl refl; unstaged = λ k i. refl; forgets = forgets s _ (m.stop s clean l) };
+    stops = λ s clean l. record { fixed = fixed s _; cell = λ k i. refl; under_way = λ k i. inl refl; unstaged = λ k i. refl; forgets = forgets s _ (m.stop s clean l) };
     finishes = λ s q. record {
       fixed = fixed s _;
       stores = λ i. refl;
@@ -106,7 +106,7 @@ module _ {S : Type 0} (b : Bare S) where
       fades = λ k i. inl refl;
       forgets = λ x h. h;
       other_cell = λ k i n. refl;
-      other_under = λ k i n. refl;
+      other_under_way = λ k i n. refl;
       other_staged = λ k i n. refl;
       other_tap = λ k j n. refl;
     };

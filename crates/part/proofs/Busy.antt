@@ -20,7 +20,7 @@ pub record Shows {S : Type 0} (ops : Ops S) : Type 0 where
   pub takes_heard : (s : S) (a : ℕ) (l : Levels) (x : ℕ) → ops.takes s a l x ≡ true → ops.heard s a ≡ true
   pub hangs_up : (s : S) (clean : Bool) (l : Levels) (x : ℕ) → ops.heard (ops.stop s clean l) x ≡ false
   pub renews_free : (s : S) (k : ℕ) → ops.busy (ops.renew s) k ≡ false
-  pub begins_all : (s : S) (l : Levels) (k i : ℕ) → l.wp ≡ false → ops.under (ops.stop s true l) k i ≡ option_or (ops.under s k i) (ops.staged s k i)
+  pub begins_all : (s : S) (l : Levels) (k i : ℕ) → l.wp ≡ false → ops.under_way (ops.stop s true l) k i ≡ option_or (ops.under_way s k i) (ops.staged s k i)
 
 not_true : (b : Bool) → (b ≡ true → ⊥) → b ≡ false
 not_true true h = absurd (h refl)
@@ -38,7 +38,7 @@ module _ {S : Type 0} (ops : Ops S) (keeps : Keeps ops) (shows : Shows ops) wher
   was_busy : (s t : S) → Lasting ops s t → (k : ℕ) → ops.busy t k ≡ true → ops.busy s k ≡ true
   was_busy s t l k h =
       let u = (keeps.shape t).busy_by k h in
-      (keeps.shape s).busy_if k u.0 u.1.0 (sym (l.under k u.0) ∙ u.1.1)
+      (keeps.shape s).busy_if k u.0 u.1.0 (sym (l.under_way k u.0) ∙ u.1.1)
 
   unheard_after : (s t : S) → Forgets ops s t → ((x : ℕ) → ops.heard s x ≡ false) → (x : ℕ) → ops.heard t x ≡ false
   unheard_after s t f n x = not_true (ops.heard t x) (λ h. clash (sym (n x) ∙ f x h))
@@ -70,7 +70,7 @@ module _ {S : Type 0} (ops : Ops S) (keeps : Keeps ops) (shows : Shows ops) wher
       let t = keeps.taking s a l x in
       calm s (ops.take s a l x) t.lasting (t.unacked e).1 t.forgets free k h
 
-  no_write : (t : S) (k : ℕ) → ((i : ℕ) → ops.under t k i ≡ None) → ops.busy t k ≡ true → ⊥
+  no_write : (t : S) (k : ℕ) → ((i : ℕ) → ops.under_way t k i ≡ None) → ops.busy t k ≡ true → ⊥
   no_write t k n h = let u = (keeps.shape t).busy_by k h in let e = n u.0 in let f = u.1.1 in let z : ◌≡◌ {A = ℕ} 0 1 = cc in omega arith
 
   finished : (s t : S) (q : ℕ) → Finishes ops s q t → Free s → Free t
@@ -79,7 +79,7 @@ module _ {S : Type 0} (ops : Ops S) (keeps : Keeps ops) (shows : Shows ops) wher
       (λ e. absurd (no_write t k (λ i. rw e (f.ends i)) h))
       (λ n.
       let u = (keeps.shape t).busy_by k h in
-      let was = (keeps.shape s).busy_if k u.0 u.1.0 (sym (f.other_under k u.0 n) ∙ u.1.1) in
+      let was = (keeps.shape s).busy_if k u.0 u.1.0 (sym (f.other_under_way k u.0 n) ∙ u.1.1) in
       record { unheard = unheard_after s t f.forgets (free k was).unheard; unstaged = λ i. f.other_staged k i n ∙ (free k was).unstaged i })
       (cases_eq k q)
 
@@ -99,7 +99,7 @@ module _ {S : Type 0} (ops : Ops S) (keeps : Keeps ops) (shows : Shows ops) wher
   begun : (u w : Option ℕ) (v : ℕ) → w ≡ Some v → (u ≡ None → option_or u w ≡ Some v)
   begun u w v e n = rw n e
 
-  idle_cell : (s : S) → Free s → (k i v : ℕ) → ops.staged s k i ≡ Some v → (o : Option ℕ) → ops.under s k i ≡ o → ops.under s k i ≡ None
+  idle_cell : (s : S) → Free s → (k i v : ℕ) → ops.staged s k i ≡ Some v → (o : Option ℕ) → ops.under_way s k i ≡ o → ops.under_way s k i ≡ None
   idle_cell s free k i v h None e = e
   idle_cell s free k i v h (Some u) e =
       let n = (free k ((keeps.shape s).busy_if k i u e)).unstaged i in
@@ -112,7 +112,7 @@ module _ {S : Type 0} (ops : Ops S) (keeps : Keeps ops) (shows : Shows ops) wher
     one_heard = shows.one_heard s;
     aim_unacked = shows.aim_unacked s;
     take_unacked = shows.take_unacked s;
-    begins = λ l low k i v h. shows.begins_all s l k i low ∙ begun (ops.under s k i) (ops.staged s k i) v h (idle_cell s free k i v h (ops.under s k i) refl);
+    begins = λ l low k i v h. shows.begins_all s l k i low ∙ begun (ops.under_way s k i) (ops.staged s k i) v h (idle_cell s free k i v h (ops.under_way s k i) refl);
   }
 
   all_after : (ms : List Move) (s : S) → Free s → Chip ops (after ops s ms)

@@ -16,7 +16,7 @@ module _ {S : Type 0} (ops : Ops S) where
     pub aim_unacked : (a : ℕ) (l : Levels) (x : ℕ) → ops.aims s a l x ≡ false → (k i : ℕ) → ops.staged (ops.aim s a l x) k i ≡ None
     pub take_unacked : (a : ℕ) (l : Levels) (x : ℕ) → ops.takes s a l x ≡ false → (k i : ℕ) → ops.staged (ops.take s a l x) k i ≡ None
     -- at a clean STOP with WP LOW all that is staged comes under way
-    pub begins : (l : Levels) → l.wp ≡ false → (k i v : ℕ) → ops.staged s k i ≡ Some v → ops.under (ops.stop s true l) k i ≡ Some v
+    pub begins : (l : Levels) → l.wp ≡ false → (k i v : ℕ) → ops.staged s k i ≡ Some v → ops.under_way (ops.stop s true l) k i ≡ Some v
 
   -- whatever is done to it from a state on
   abbrev pub AlwaysChip : S → Type 0

@@ -14,9 +14,9 @@ module _ {S : Type 0} (ops : Ops S) where
     pub cells_in : (k : ℕ) → ops.count s ≤ k → ops.cells s k ≡ 0
     pub wipers_in : (k : ℕ) → ops.count s ≤ k → ops.wipers s k ≡ 0
     pub staged_in : (k i v : ℕ) → ops.staged s k i ≡ Some v → i < ops.cells s k
-    pub under_in : (k i v : ℕ) → ops.under s k i ≡ Some v → i < ops.cells s k
-    pub busy_if : (k i v : ℕ) → ops.under s k i ≡ Some v → ops.busy s k ≡ true
-    pub busy_by : (k : ℕ) → ops.busy s k ≡ true → (i : ℕ) × ((v : ℕ) × (ops.under s k i ≡ Some v))
+    pub under_way_in : (k i v : ℕ) → ops.under_way s k i ≡ Some v → i < ops.cells s k
+    pub busy_if : (k i v : ℕ) → ops.under_way s k i ≡ Some v → ops.busy s k ≡ true
+    pub busy_by : (k : ℕ) → ops.busy s k ≡ true → (i : ℕ) × ((v : ℕ) × (ops.under_way s k i ≡ Some v))
     pub hears_has : (x : ℕ) → ops.hears s x ≡ true → ops.has s (x / 2) ≡ true
 
   -- from s to t, what no move changes
@@ -31,7 +31,7 @@ module _ {S : Type 0} (ops : Ops S) where
   -- no stored byte changes, and no write under way comes, goes or changes
   pub record Lasting (s t : S) : Type 0 where
     pub cell : (k i : ℕ) → ops.cell t k i ≡ ops.cell s k i
-    pub under : (k i : ℕ) → ops.under t k i ≡ ops.under s k i
+    pub under_way : (k i : ℕ) → ops.under_way t k i ≡ ops.under_way s k i
 
   -- a staged write stays or goes; nothing is staged
   abbrev pub Fades : S → S → Type 0
@@ -102,9 +102,9 @@ module _ {S : Type 0} (ops : Ops S) where
   pub record Stops (s : S) (clean : Bool) (l : Levels) (t : S) : Type 0 where
     pub fixed : Fixed s t
     pub cell : (k i : ℕ) → ops.cell t k i ≡ ops.cell s k i
-    pub under : (k i : ℕ) →
-        (ops.under t k i ≡ ops.under s k i)
-        ⊎ ((ops.under s k i ≡ None) × (clean ≡ true) × (l.wp ≡ false) × (ops.under t k i ≡ ops.staged s k i))
+    pub under_way : (k i : ℕ) →
+        (ops.under_way t k i ≡ ops.under_way s k i)
+        ⊎ ((ops.under_way s k i ≡ None) × (clean ≡ true) × (l.wp ≡ false) × (ops.under_way t k i ≡ ops.staged s k i))
     pub unstaged : Unstaged t
     pub forgets : Forgets s t
 
@@ -116,12 +116,12 @@ module _ {S : Type 0} (ops : Ops S) where
   -- a finish of part q stores all that is under way there, and leaves none; every other part is as it was
   pub record Finishes (s : S) (q : ℕ) (t : S) : Type 0 where
     pub fixed : Fixed s t
-    pub stores : (i : ℕ) → ops.cell t q i ≡ stored (ops.under s q i) (ops.cell s q i)
-    pub ends : (i : ℕ) → ops.under t q i ≡ None
+    pub stores : (i : ℕ) → ops.cell t q i ≡ stored (ops.under_way s q i) (ops.cell s q i)
+    pub ends : (i : ℕ) → ops.under_way t q i ≡ None
     pub fades : Fades s t
     pub forgets : Forgets s t
     pub other_cell : (k i : ℕ) → (k ≢ q) → ops.cell t k i ≡ ops.cell s k i
-    pub other_under : (k i : ℕ) → (k ≢ q) → ops.under t k i ≡ ops.under s k i
+    pub other_under_way : (k i : ℕ) → (k ≢ q) → ops.under_way t k i ≡ ops.under_way s k i
     pub other_staged : (k i : ℕ) → (k ≢ q) → ops.staged t k i ≡ ops.staged s k i
     pub other_tap : (k j : ℕ) → (k ≢ q) → ops.tap t k j ≡ ops.tap s k j
 
@@ -132,9 +132,9 @@ module _ {S : Type 0} (ops : Ops S) where
   -- a power cut stores exactly the writes under way whose offset is marked in its mask; nothing is under way, staged or heard afterwards
   pub record Cuts (s : S) (p : PowerCut) (t : S) : Type 0 where
     pub fixed : Fixed s t
-    pub marked : (k i : ℕ) → Marked p.mask (ops.offset s k i) → ops.cell t k i ≡ stored (ops.under s k i) (ops.cell s k i)
+    pub marked : (k i : ℕ) → Marked p.mask (ops.offset s k i) → ops.cell t k i ≡ stored (ops.under_way s k i) (ops.cell s k i)
     pub unmarked : (k i : ℕ) → (Marked p.mask (ops.offset s k i) → ⊥) → ops.cell t k i ≡ ops.cell s k i
-    pub ends : (k i : ℕ) → ops.under t k i ≡ None
+    pub ends : (k i : ℕ) → ops.under_way t k i ≡ None
     pub unstaged : Unstaged t
     pub unheard : Unheard t
 

@@ -17,7 +17,7 @@ pub record Ops (S : Type 0) : Type 0 where
   -- a cell's stored byte, the value staged for it, and the value that a write under way brings it
   pub cell : S → ℕ → ℕ → ℕ
   pub staged : S → ℕ → ℕ → Option ℕ
-  pub under : S → ℕ → ℕ → Option ℕ
+  pub under_way : S → ℕ → ℕ → Option ℕ
   -- whether a numbered part has a write under way
   pub busy : S → ℕ → Bool
   -- where a wiper stands

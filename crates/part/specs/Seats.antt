@@ -19,7 +19,7 @@ pub record Shown {S C : Type 0} (ops : Ops S) (chip : Ops C) (k : ℕ) (s : S) (
   pub offset : (i : ℕ) → ops.offset s k i ≡ chip.offset c 0 i
   pub cell : (i : ℕ) → ops.cell s k i ≡ chip.cell c 0 i
   pub staged : (i : ℕ) → ops.staged s k i ≡ chip.staged c 0 i
-  pub under : (i : ℕ) → ops.under s k i ≡ chip.under c 0 i
+  pub under_way : (i : ℕ) → ops.under_way s k i ≡ chip.under_way c 0 i
   pub busy : ops.busy s k ≡ chip.busy c 0
   pub tap : (j : ℕ) → ops.tap s k j ≡ chip.tap c 0 j
 

@@ -38,7 +38,7 @@ pub trait Part {
         ensures { result ≡ ops.staged self.now part n };
 
     fn under_way(&self, part: usize, n: usize) -> Option<u8>
-        ensures { result ≡ ops.under self.now part n };
+        ensures { result ≡ ops.under_way self.now part n };
 
     fn busy(&self, part: usize) -> bool
         ensures { result ≡ ops.busy self.now part };

@@ -7,8 +7,8 @@ use Rattle.std.proofs.lemmas.Bool.{and_from, eqb-true}
 use Rattle.part.specs.declared.levels.Levels.{Levels}
 use Rattle.part.specs.declared.power.PowerCut.{PowerCut}
 use Rattle.part.specs.Moves.{Move, starting, addressing, aiming, taking, giving, levelling, stopping, finishing, cutting, renewing, moved}
-use Rattle.eeprom.specs.Cells.{byte_at, staged_at, under_at, marks, stopped}
-use Rattle.eeprom.proofs.Moves.{begins_under, finishes_byte, finishes_under, cuts_byte, cuts_under}
+use Rattle.eeprom.specs.Cells.{byte_at, staged_at, under_way_at, marks, stopped}
+use Rattle.eeprom.proofs.Moves.{begins_under_way, finishes_byte, finishes_under_way, cuts_byte, cuts_under_way}
 use Rattle.eeprom.proofs.Numbered.{stopped_byte}
 use Rattle.protection.specs.declared.latches.Latches.{Latches}
 use Rattle.protection.specs.Latching.{cleared, enabled, armed, disarmed}
@@ -25,7 +25,7 @@ use Rattle.x9520.proofs.Lock.{Judged, judged, Guarded, guarded_step, locked_rest
 
 pub record CalmMove (c d : X9520) : Type 0 where
   pub cells : (i : ℕ) → byte_at d.eeprom i ≡ byte_at c.eeprom i
-  pub under : (i : ℕ) → under_at d.eeprom i ≡ under_at c.eeprom i
+  pub under_way : (i : ℕ) → under_way_at d.eeprom i ≡ under_way_at c.eeprom i
   -- no latch comes to be set, and only RWEL may fall
   pub wel : d.latches.wel ≡ c.latches.wel
   pub rwel : d.latches.rwel ≡ true → c.latches.rwel ≡ true
@@ -33,12 +33,12 @@ pub record CalmMove (c d : X9520) : Type 0 where
   pub wiper : locks_wipers (stored_register c) ≡ true → (j : ℕ) → x9520.tap d 0 j ≡ x9520.tap c 0 j
 
 pub calm_same : (c : X9520) → CalmMove c c
-calm_same c = record { cells = λ i. refl; under = λ i. refl; wel = refl; rwel = λ h. h; wiper = λ h j. refl }
+calm_same c = record { cells = λ i. refl; under_way = λ i. refl; wel = refl; rwel = λ h. h; wiper = λ h j. refl }
 
 pub calm_equal : (c d : X9520) → d ≡ c → CalmMove c d
 calm_equal c d e = record {
   cells = λ i. ap (λ s. byte_at s.eeprom i) e;
-  under = λ i. ap (λ s. under_at s.eeprom i) e;
+  under_way = λ i. ap (λ s. under_way_at s.eeprom i) e;
   wel = ap (λ s. s.latches.wel) e;
   rwel = λ h. sym (ap (λ s. s.latches.rwel) e) ∙ h;
   wiper = λ h j. ap (λ s. x9520.tap s 0 j) e;
@@ -51,26 +51,26 @@ calm_register c d m = m.cells 259
 pub calm_then : (c d e : X9520) → CalmMove c d → CalmMove d e → CalmMove c e
 calm_then c d e p q = record {
   cells = λ i. q.cells i ∙ p.cells i;
-  under = λ i. q.under i ∙ p.under i;
+  under_way = λ i. q.under_way i ∙ p.under_way i;
   wel = q.wel ∙ p.wel;
   rwel = λ h. p.rwel (q.rwel h);
   wiper = λ h j. q.wiper (ap locks_wipers (p.cells 259) ∙ h) j ∙ p.wiper h j;
 }
 
 pub calm_start : (s : X9520) → CalmMove s (x9520.start s)
-calm_start s = record { cells = λ i. refl; under = λ i. refl; wel = refl; rwel = λ h. h; wiper = λ h j. refl }
+calm_start s = record { cells = λ i. refl; under_way = λ i. refl; wel = refl; rwel = λ h. h; wiper = λ h j. refl }
 
 pub calm_address : (s : X9520) (x : ℕ) → CalmMove s (x9520.address s x)
-calm_address s x = record { cells = λ i. refl; under = λ i. refl; wel = refl; rwel = λ h. h; wiper = λ h j. refl }
+calm_address s x = record { cells = λ i. refl; under_way = λ i. refl; wel = refl; rwel = λ h. h; wiper = λ h j. refl }
 
 pub calm_aim : (s : X9520) (a : ℕ) (l : Levels) (x : ℕ) → CalmMove s (x9520.aim s a l x)
-calm_aim s a l x = record { cells = λ i. refl; under = λ i. refl; wel = refl; rwel = λ h. h; wiper = λ h j. refl }
+calm_aim s a l x = record { cells = λ i. refl; under_way = λ i. refl; wel = refl; rwel = λ h. h; wiper = λ h j. refl }
 
 pub calm_give : (s : X9520) (a : ℕ) → CalmMove s (x9520.give s a)
-calm_give s a = record { cells = λ i. refl; under = λ i. refl; wel = refl; rwel = λ h. h; wiper = λ h j. refl }
+calm_give s a = record { cells = λ i. refl; under_way = λ i. refl; wel = refl; rwel = λ h. h; wiper = λ h j. refl }
 
 pub calm_level : (s : X9520) (l : Levels) → CalmMove s (x9520.level s l)
-calm_level s l = record { cells = λ i. refl; under = λ i. refl; wel = refl; rwel = λ h. h; wiper = λ h j. refl }
+calm_level s l = record { cells = λ i. refl; under_way = λ i. refl; wel = refl; rwel = λ h. h; wiper = λ h j. refl }
 
 -- a data byte, by what it was judged to do
 taken_wel : (v : Verdict) (l : Latches) → (latches_taken v l).wel ≡ l.wel
@@ -103,7 +103,7 @@ calm_take s a l x =
     let r = taken_rests v s.eeprom s.counter s.named x in
     record {
       cells = r.byte;
-      under = r.under;
+      under_way = r.under_way;
       wel = taken_wel v s.latches;
       rwel = taken_rwel v s.latches;
       wiper = λ h j. ap (λ d. tap_at d j) (taken_wiper v s x (judged s a l.wp x) h);
@@ -177,8 +177,8 @@ module _ (c : X9520) (clean : Bool) (l : Levels) where
   stop_tap j = refl
 
   -- what comes under way
-  pub stop_begins : clean ≡ true → l.wp ≡ false → (i : ℕ) → under_at (x9520.stop c clean l).eeprom i ≡ option_or (under_at c.eeprom i) (staged_at c.eeprom i)
-  stop_begins h low i = ap (λ b. under_at (stopped b c.eeprom) i) (and_from clean (not l.wp) h (ap not low)) ∙ begins_under c.eeprom i
+  pub stop_begins : clean ≡ true → l.wp ≡ false → (i : ℕ) → under_way_at (x9520.stop c clean l).eeprom i ≡ option_or (under_way_at c.eeprom i) (staged_at c.eeprom i)
+  stop_begins h low i = ap (λ b. under_way_at (stopped b c.eeprom) i) (and_from clean (not l.wp) h (ap not low)) ∙ begins_under_way c.eeprom i
 
 stored_or : (t : Bool) (u : Option ℕ) (b n : ℕ) → n ≡ cond t (unwrap_or u b) b → (n ≡ b) ⊎ (u ≡ Some n)
 stored_or true None b n e = inl e
@@ -187,11 +187,11 @@ stored_or false u b n e = inl e
 
 module _ (c : X9520) where
   -- a finish stores all that is under way, and touches nothing else
-  finish_byte : (i : ℕ) → byte_at (x9520.finish c 0).eeprom i ≡ unwrap_or (under_at c.eeprom i) (byte_at c.eeprom i)
+  finish_byte : (i : ℕ) → byte_at (x9520.finish c 0).eeprom i ≡ unwrap_or (under_way_at c.eeprom i) (byte_at c.eeprom i)
   finish_byte i = finishes_byte c.eeprom i
 
-  pub finish_under : (i : ℕ) → under_at (x9520.finish c 0).eeprom i ≡ None
-  finish_under i = finishes_under c.eeprom i
+  pub finish_under_way : (i : ℕ) → under_way_at (x9520.finish c 0).eeprom i ≡ None
+  finish_under_way i = finishes_under_way c.eeprom i
 
   pub finish_tap : (j : ℕ) → x9520.tap (x9520.finish c 0) 0 j ≡ x9520.tap c 0 j
   finish_tap j = refl
@@ -200,21 +200,21 @@ module _ (c : X9520) where
   finish_latches = refl
 
   -- a power cut stores those that its mask marks, and clears the rest
-  cut_byte : (p : PowerCut) (i : ℕ) → byte_at (x9520.cut c p).eeprom i ≡ cond (marks p.mask i) (unwrap_or (under_at c.eeprom i) (byte_at c.eeprom i)) (byte_at c.eeprom i)
+  cut_byte : (p : PowerCut) (i : ℕ) → byte_at (x9520.cut c p).eeprom i ≡ cond (marks p.mask i) (unwrap_or (under_way_at c.eeprom i) (byte_at c.eeprom i)) (byte_at c.eeprom i)
   cut_byte p i = cuts_byte c.eeprom p.mask i
 
-  pub cut_under : (p : PowerCut) (i : ℕ) → under_at (x9520.cut c p).eeprom i ≡ None
-  cut_under p i = cuts_under c.eeprom p.mask i
+  pub cut_under_way : (p : PowerCut) (i : ℕ) → under_way_at (x9520.cut c p).eeprom i ≡ None
+  cut_under_way p i = cuts_under_way c.eeprom p.mask i
 
   pub cut_latches : (p : PowerCut) → (x9520.cut c p).latches ≡ cleared
   cut_latches p = refl
 
   -- the byte of a cell afterwards is the one before, or was under way
-  pub finish_either : (i : ℕ) → (byte_at (x9520.finish c 0).eeprom i ≡ byte_at c.eeprom i) ⊎ (under_at c.eeprom i ≡ Some (byte_at (x9520.finish c 0).eeprom i))
-  finish_either i = stored_or true (under_at c.eeprom i) (byte_at c.eeprom i) _ (finish_byte i)
+  pub finish_either : (i : ℕ) → (byte_at (x9520.finish c 0).eeprom i ≡ byte_at c.eeprom i) ⊎ (under_way_at c.eeprom i ≡ Some (byte_at (x9520.finish c 0).eeprom i))
+  finish_either i = stored_or true (under_way_at c.eeprom i) (byte_at c.eeprom i) _ (finish_byte i)
 
-  pub cut_either : (p : PowerCut) (i : ℕ) → (byte_at (x9520.cut c p).eeprom i ≡ byte_at c.eeprom i) ⊎ (under_at c.eeprom i ≡ Some (byte_at (x9520.cut c p).eeprom i))
-  cut_either p i = stored_or (marks p.mask i) (under_at c.eeprom i) (byte_at c.eeprom i) _ (cut_byte p i)
+  pub cut_either : (p : PowerCut) (i : ℕ) → (byte_at (x9520.cut c p).eeprom i ≡ byte_at c.eeprom i) ⊎ (under_way_at c.eeprom i ≡ Some (byte_at (x9520.cut c p).eeprom i))
+  cut_either p i = stored_or (marks p.mask i) (under_way_at c.eeprom i) (byte_at c.eeprom i) _ (cut_byte p i)
 
 -- What a latch byte sets: WEL by 02h alone, and RWEL by 06h alone, where WEL stands.
 set_wel : (z t f : Bool) (l : Latches) (x : ℕ) → eqb x 2 ≡ t → (cond z cleared (cond t (enabled l) (cond f (armed l) l))).wel ≡ true → (l.wel ≡ true) ⊎ (x ≡ 2)
@@ -237,7 +237,7 @@ latched_rwel l x h = set_rwel (eqb x 0) (eqb x 2) (eqb x 6) l x refl h
 
 module _ (c : X9520) (clean : Bool) (l : Levels) where
   -- what is locked does not come under way
-  pub stop_locked : Guarded c → (i : ℕ) → locks (stored_register c) i ≡ true → under_at (x9520.stop c clean l).eeprom i ≡ under_at c.eeprom i
+  pub stop_locked : Guarded c → (i : ℕ) → locks (stored_register c) i ≡ true → under_way_at (x9520.stop c clean l).eeprom i ≡ under_way_at c.eeprom i
   stop_locked g i e =
       let h = guarded_step c (stopping clean l) tt g in
       locked_rests (x9520.stop c clean l) h i (ap (λ r. locks r i) (stop_byte c clean l 259) ∙ e) ∙ sym (locked_rests c g i e)

@@ -8,8 +8,8 @@ use Rattle.part.specs.declared.levels.Levels.{Levels}
 use Rattle.part.specs.Ops.{is}
 use Rattle.part.specs.Moves.{Move, starting, addressing, aiming, taking, giving, levelling, stopping, finishing, cutting, renewing, moved}
 use Rattle.eeprom.specs.declared.Eeprom.{Eeprom}
-use Rattle.eeprom.specs.Cells.{byte_at, staged_at, under_at, is_busy, all_fresh, stages, unstages, stopped, begins, finishes, cuts}
-use Rattle.eeprom.proofs.Moves.{busy_if, free_if, stages_staged, unstages_staged, begins_staged, begins_under, finishes_byte, finishes_under, cuts_staged, cuts_under}
+use Rattle.eeprom.specs.Cells.{byte_at, staged_at, under_way_at, is_busy, all_fresh, stages, unstages, stopped, begins, finishes, cuts}
+use Rattle.eeprom.proofs.Moves.{busy_if, free_if, stages_staged, unstages_staged, begins_staged, begins_under_way, finishes_byte, finishes_under_way, cuts_staged, cuts_under_way}
 use Rattle.eeprom.proofs.Numbered.{stopped_byte, stopped_staged}
 use Rattle.protection.specs.declared.latches.Latches.{Latches}
 use Rattle.protection.specs.Lock.{locks_memory, locks_wipers, wp_forbids}
@@ -58,7 +58,7 @@ Empty e = (i : ℕ) → staged_at e i ≡ None
 
 -- nothing under way is locked by the register byte of these cells
 abbrev pub Unlocked : Eeprom 260 → Type 0
-Unlocked e = (i v : ℕ) → under_at e i ≡ Some v → locks (byte_at e 259) i ≡ false
+Unlocked e = (i v : ℕ) → under_way_at e i ≡ Some v → locks (byte_at e 259) i ≡ false
 
 pub record Guarded (s : X9520) : Type 0 where
   -- the counter is a memory cell's number, and the DCP last named is one of the three
@@ -66,7 +66,7 @@ pub record Guarded (s : X9520) : Type 0 where
   pub named_in : s.named < 3
   -- nothing staged is locked now, and nothing under way
   pub free : (i v : ℕ) → staged_at s.eeprom i ≡ Some v → locks (stored_register s) i ≡ false
-  pub unlocked : (i v : ℕ) → under_at s.eeprom i ≡ Some v → locks (stored_register s) i ≡ false
+  pub unlocked : (i v : ℕ) → under_way_at s.eeprom i ≡ Some v → locks (stored_register s) i ≡ false
   pub empty : may_stage s.mode ≡ false → Empty s.eeprom
   -- while a write is under way nothing is heard
   pub idle : is_busy s.eeprom ≡ true → s.mode ≡ Idle
@@ -91,7 +91,7 @@ idle_guarded : (s : X9520) → s.counter < 256 → s.named < 3 → Empty s.eepro
 idle_guarded s c n e u m = empty_guarded s c n e u (λ z. let y : mode_tag s.mode ≡ 0 = ap mode_tag m in omega arith) (λ b. m)
 
 -- with nothing under way
-ended : (e : Eeprom 260) → ((i : ℕ) → under_at e i ≡ None) → Unlocked e
+ended : (e : Eeprom 260) → ((i : ℕ) → under_way_at e i ≡ None) → Unlocked e
 ended e n i v h = absurd (none-some v (sym (n i) ∙ h))
 
 -- an address byte, with whether it was heard, leaves no byte held for the STOP
@@ -302,23 +302,23 @@ taken_guarded stores s x j h = stored s x j h
 unchanged : (u : Option ℕ) (b : ℕ) → u ≡ None → unwrap_or u b ≡ b
 unchanged u b e = ap (λ o. unwrap_or o b) e
 
-no_write : (e : Eeprom 260) (i : ℕ) (o : Option ℕ) → under_at e i ≡ o → (is_busy e ≡ true → ⊥) → under_at e i ≡ None
+no_write : (e : Eeprom 260) (i : ℕ) (o : Option ℕ) → under_way_at e i ≡ o → (is_busy e ≡ true → ⊥) → under_way_at e i ≡ None
 no_write e i None h n = h
 no_write e i (Some v) h n = absurd (n (busy_if e i v h))
 
 same_register : (s : X9520) (i v : ℕ) → staged_at s.eeprom i ≡ Some v → Guarded s → byte_at (finishes s.eeprom) 259 ≡ stored_register s
 same_register s i v w h =
     finishes_byte s.eeprom 259
-    ∙ unchanged (under_at s.eeprom 259) _ (no_write s.eeprom 259 (under_at s.eeprom 259) refl (λ b. absurd (none-some v (sym (h.empty (ap may_stage (h.idle b)) i) ∙ w))))
+    ∙ unchanged (under_way_at s.eeprom 259) _ (no_write s.eeprom 259 (under_way_at s.eeprom 259) refl (λ b. absurd (none-some v (sym (h.empty (ap may_stage (h.idle b)) i) ∙ w))))
 
 finished : (q : Bool) (s : X9520) → Guarded s → Guarded (chip (cond q (finishes s.eeprom) s.eeprom) s.dcps s.latches s.flags s.counter s.named s.mode)
 finished true s h = record {
   counter_in = h.counter_in;
   named_in = h.named_in;
   free = λ i v w. ap (λ r. locks r i) (same_register s i v w h) ∙ h.free i v w;
-  unlocked = ended (finishes s.eeprom) (finishes_under s.eeprom);
+  unlocked = ended (finishes s.eeprom) (finishes_under_way s.eeprom);
   empty = h.empty;
-  idle = λ b. absurd (clash (sym (free_if (finishes s.eeprom) (finishes_under s.eeprom)) ∙ b));
+  idle = λ b. absurd (clash (sym (free_if (finishes s.eeprom) (finishes_under_way s.eeprom)) ∙ b));
   held = h.held;
   storing = h.storing;
 }
@@ -329,8 +329,8 @@ from_either : (u w : Option ℕ) (v : ℕ) → option_or u w ≡ Some v → (u �
 from_either None w v h = inr h
 from_either (Some x) w v h = inl h
 
-begun : (e : Eeprom 260) (b : Bool) (i v : ℕ) → under_at (stopped b e) i ≡ Some v → (under_at e i ≡ Some v) ⊎ ((b ≡ true) × (staged_at e i ≡ Some v))
-begun e true i v h = ⊎_elim (λ u. inl u) (λ w. inr (refl, w)) (from_either (under_at e i) (staged_at e i) v (sym (begins_under e i) ∙ h))
+begun : (e : Eeprom 260) (b : Bool) (i v : ℕ) → under_way_at (stopped b e) i ≡ Some v → (under_way_at e i ≡ Some v) ⊎ ((b ≡ true) × (staged_at e i ≡ Some v))
+begun e true i v h = ⊎_elim (λ u. inl u) (λ w. inr (refl, w)) (from_either (under_way_at e i) (staged_at e i) v (sym (begins_under_way e i) ∙ h))
 begun e false i v h = inl h
 
 stopped_unlocked : (s : X9520) (b : Bool) → Guarded s → Unlocked (stopped b s.eeprom)
@@ -358,7 +358,7 @@ recounted s f n small h = record {
 }
 
 pub guarded_fresh : Guarded fresh
-guarded_fresh = idle_guarded fresh (lit< tt) (lit< tt) (begins_staged (stages all_fresh 259 1)) (ended factory (finishes_under (begins (stages all_fresh 259 1)))) refl
+guarded_fresh = idle_guarded fresh (lit< tt) (lit< tt) (begins_staged (stages all_fresh 259 1)) (ended factory (finishes_under_way (begins (stages all_fresh 259 1)))) refl
 
 -- a first byte has eight bits: a number past them would be taken for a cell past the memory
 abbrev pub Sendable : Move → Type 0
@@ -382,7 +382,7 @@ guarded_step s (giving a) b h = recounted s s.flags _ (counted (source s a) s.co
 guarded_step s (levelling l) b h = recounted s (flags_at s.flags l) s.counter h.counter_in h
 guarded_step s (stopping clean l) b h = idle_guarded (x9520.stop s clean l) h.counter_in h.named_in (stopped_staged s.eeprom (clean && not l.wp)) (stopped_unlocked s (clean && not l.wp) h) refl
 guarded_step s (finishing k) b h = finished (eqb k 0) s h
-guarded_step s (cutting p) b h = idle_guarded (x9520.cut s p) (lit< tt) (lit< tt) (cuts_staged s.eeprom p.mask) (ended (cuts s.eeprom p.mask) (cuts_under s.eeprom p.mask)) refl
+guarded_step s (cutting p) b h = idle_guarded (x9520.cut s p) (lit< tt) (lit< tt) (cuts_staged s.eeprom p.mask) (ended (cuts s.eeprom p.mask) (cuts_under_way s.eeprom p.mask)) refl
 guarded_step s renewing b h = guarded_fresh
 
 pub none_by : (o : Option ℕ) → ((v : ℕ) → o ≡ Some v → ⊥) → o ≡ None
@@ -391,16 +391,16 @@ none_by (Some v) n = absurd (n v refl)
 
 module _ (s : X9520) (h : Guarded s) where
   -- so nothing is under way in a locked cell
-  pub locked_rests : (i : ℕ) → locks (stored_register s) i ≡ true → under_at s.eeprom i ≡ None
-  locked_rests i e = none_by (under_at s.eeprom i) (λ v w. clash (sym (h.unlocked i v w) ∙ e))
+  pub locked_rests : (i : ℕ) → locks (stored_register s) i ≡ true → under_way_at s.eeprom i ≡ None
+  locked_rests i e = none_by (under_way_at s.eeprom i) (λ v w. clash (sym (h.unlocked i v w) ∙ e))
 
   -- nothing is staged while a latch byte waits
   pub latching_empty : (v : ℕ) → s.mode ≡ Latching v → (i : ℕ) → staged_at s.eeprom i ≡ None
   latching_empty v e = h.empty (ap may_stage e)
 
   -- a register byte comes under way only at a clean STOP with WP LOW, out of the byte held by RWEL
-  pub register_begins : (clean : Bool) (l : Levels) (v : ℕ) → under_at (x9520.stop s clean l).eeprom 259 ≡ Some v
-      → (under_at s.eeprom 259 ≡ Some v) ⊎ ((s.mode ≡ Storing v) × (s.latches.rwel ≡ true) × (clean ≡ true) × (l.wp ≡ false))
+  pub register_begins : (clean : Bool) (l : Levels) (v : ℕ) → under_way_at (x9520.stop s clean l).eeprom 259 ≡ Some v
+      → (under_way_at s.eeprom 259 ≡ Some v) ⊎ ((s.mode ≡ Storing v) × (s.latches.rwel ≡ true) × (clean ≡ true) × (l.wp ≡ false))
   register_begins clean l v w =
       ⊎_elim (λ u. inl u) (λ u. let b = and_parts clean (not l.wp) u.0 in inr ((h.held v u.1).0, (h.held v u.1).1, b.0, not-true l.wp b.1))
       (begun s.eeprom (clean && not l.wp) 259 v w)
