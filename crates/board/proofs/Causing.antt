@@ -92,11 +92,11 @@ module _ {S : Type 0} (ops : Ops S) (keeps : Keeps ops) where
       rw (ne_eqb (length t.bits) 8 (λ z. omega (arith, one, z))) refl
 
   stop_fate : (b : Board S) (x : ℕ) (c : Board S) (h : History) (k i : ℕ) → edge_of ops b (Sample x) c ≡ stopped
-      → c.part ≡ ops.stop (ops.level b.part (levels x)) (clean h.opened) (levels x) → Open ops keeps h.answer h.opened b.part → Fate b (Sample x) c h k i
+      → c.part ≡ ops.stop (ops.level b.part (levels x)) (clean h.ongoing) (levels x) → Open ops keeps h.answer h.ongoing b.part → Fate b (Sample x) c h k i
   stop_fate b x c h k i st e held =
       let l = levels x in
       let up = keeps.levels b.part l in
-      let halt = keeps.stops (ops.level b.part l) (clean h.opened) l in
+      let halt = keeps.stops (ops.level b.part l) (clean h.ongoing) l in
       record {
         cell = inl (rw e (halt.cell k i ∙ up.calm.lasting.cell k i));
         under_way = λ v u. elim (halt.under_way k i) [
@@ -105,18 +105,18 @@ module _ {S : Type 0} (ops : Ops S) (keeps : Keeps ops) where
         ];
       }
     where
-      ended : (v : ℕ) → ops.staged (ops.level b.part (levels x)) k i ≡ Some v → clean h.opened ≡ true → (levels x).wp ≡ false → Writes ops b (Sample x) c h k v
+      ended : (v : ℕ) → ops.staged (ops.level b.part (levels x)) k i ≡ Some v → clean h.ongoing ≡ true → (levels x).wp ≡ false → Writes ops b (Sample x) c h k v
       ended v u cl low =
-          let w = clean_some h.opened cl in
+          let w = clean_some h.ongoing cl in
           let t = w.0 in
           let up = keeps.levels b.part (levels x) in
-          let r = onto ops keeps h.answer h.opened b.part _ up.calm.fixed up.calm.fades (held t w.1.0) k i v u in
+          let r = onto ops keeps h.answer h.ongoing b.part _ up.calm.fixed up.calm.fades (held t w.1.0) k i v u in
           let f = facts ops keeps h.answer t _ k v (subst (λ o. Bears ops keeps h.answer o (ops.level b.part (levels x)) k v) w.1.0 r) in
           record {
             stop = st;
             low = low;
             t = t;
-            opened = w.1.0;
+            ongoing = w.1.0;
             clean = w.1.1;
             writing = f.2;
             mine = sym (up.calm.fixed.owner _) ∙ f.3;
@@ -158,19 +158,19 @@ module _ {S : Type 0} (ops : Ops S) (keeps : Keeps ops) where
       by false g = inl (ap (λ s. ops.cell s k i) e ∙ f.unmarked k i (eqb-false _ 1 g))
 
   abbrev told_by : Board S → ℕ → Board S → History → List Move
-  told_by b x c h = told (edge_of ops b (Sample x) c) (levels x) h.opened
+  told_by b x c h = told (edge_of ops b (Sample x) c) (levels x) h.ongoing
 
   sample_fate : (b : Board S) (x : ℕ) (c : Board S) (h : History) (k i : ℕ) → c.part ≡ after ops (ops.level b.part (levels x)) (told_by b x c h)
-      → Open ops keeps h.answer h.opened b.part → Fate b (Sample x) c h k i
+      → Open ops keeps h.answer h.ongoing b.part → Fate b (Sample x) c h k i
   sample_fate b x c h k i e held = elim (is_stopped (edge_of ops b (Sample x) c)) [
-    | inl st ↦ stop_fate b x c h k i st (e ∙ ap (λ z. after ops (ops.level b.part (levels x)) (told z (levels x) h.opened)) st) held
+    | inl st ↦ stop_fate b x c h k i st (e ∙ ap (λ z. after ops (ops.level b.part (levels x)) (told z (levels x) h.ongoing)) st) held
     | inr n ↦ (
-        let r = then_lasting _ _ _ (keeps.levels b.part (levels x)).calm.lasting (edge_lasting (edge_of ops b (Sample x) c) (levels x) h.opened (ops.level b.part (levels x)) n) in
+        let r = then_lasting _ _ _ (keeps.levels b.part (levels x)).calm.lasting (edge_lasting (edge_of ops b (Sample x) c) (levels x) h.ongoing (ops.level b.part (levels x)) n) in
         quiet_fate b (Sample x) c h k i (ap (λ s. ops.cell s k i) e ∙ r.cell k i) (ap (λ s. ops.under_way s k i) e ∙ r.under_way k i))
   ]
 
   sample_fate_by : (t : Bool) (b : Board S) (x : ℕ) (c : Board S) (h : History) (k i : ℕ) → ltb x 32 ≡ t → Advances ops b (Sample x) c h
-      → Open ops keeps h.answer h.opened b.part → Fate b (Sample x) c h k i
+      → Open ops keeps h.answer h.ongoing b.part → Fate b (Sample x) c h k i
   sample_fate_by true b x c h k i e a held = sample_fate b x c h k i (a.part ∙ ap (after ops b.part) (cond-true _ _ _ e)) held
   sample_fate_by false b x c h k i e a held = let same = a.refused e in quiet_fate b (Sample x) c h k i (ap (λ z. ops.cell z.part k i) same) (ap (λ z. ops.under_way z.part k i) same)
 
@@ -178,36 +178,36 @@ module _ {S : Type 0} (ops : Ops S) (keeps : Keeps ops) where
   finish_fate_by true b q c h k i e a = finish_fate b q c h k i (a.part ∙ ap (after ops b.part) (cond-true _ _ _ e))
   finish_fate_by false b q c h k i e a = let same = a.refused e in quiet_fate b (Finish q) c h k i (ap (λ z. ops.cell z.part k i) same) (ap (λ z. ops.under_way z.part k i) same)
 
-  fate : (b : Board S) (call : Call) (c : Board S) (h : History) (k i : ℕ) → Advances ops b call c h → Open ops keeps h.answer h.opened b.part → Fate b call c h k i
+  fate : (b : Board S) (call : Call) (c : Board S) (h : History) (k i : ℕ) → Advances ops b call c h → Open ops keeps h.answer h.ongoing b.part → Fate b call c h k i
   fate b (Sample x) c h k i a held = sample_fate_by (ltb x 32) b x c h k i refl a held
   fate b (Finish q) c h k i a held = finish_fate_by _ b q c h k i refl a
   fate b (Cut p) c h k i a held = cut_fate b p c h k i a.part
 
   -- what is staged, over a whole run
-  held_sample : (t : Bool) (b : Board S) (x : ℕ) (c : Board S) (h : History) → ltb x 32 ≡ t → Advances ops b (Sample x) c h → Open ops keeps h.answer h.opened b.part
-      → let n = onward ops b (Sample x) c h in Open ops keeps n.answer n.opened c.part
+  held_sample : (t : Bool) (b : Board S) (x : ℕ) (c : Board S) (h : History) → ltb x 32 ≡ t → Advances ops b (Sample x) c h → Open ops keeps h.answer h.ongoing b.part
+      → let n = onward ops b (Sample x) c h in Open ops keeps n.answer n.ongoing c.part
   held_sample true b x c h e a held =
       let l = levels x in
       let up = keeps.levels b.part l in
-      let u = open_edge ops keeps b.bus.scl c.bus.scl b.bus.sda c.bus.sda l h.answer h.byte h.opened (ops.level b.part l)
-      (onto_open ops keeps h.answer h.opened b.part _ up.calm.fixed up.calm.fades held) in
+      let u = open_edge ops keeps b.bus.scl c.bus.scl b.bus.sda c.bus.sda l h.answer h.byte h.ongoing (ops.level b.part l)
+      (onto_open ops keeps h.answer h.ongoing b.part _ up.calm.fixed up.calm.fades held) in
       rw (a.part, e) u
   held_sample false b x c h e a held =
       let same = a.refused e in
-      subst (λ d. let n = onward ops b (Sample x) d h in Open ops keeps n.answer n.opened d.part) (sym same) (rw e (edge_kept b.bus.scl b.bus.sda held))
+      subst (λ d. let n = onward ops b (Sample x) d h in Open ops keeps n.answer n.ongoing d.part) (sym same) (rw e (edge_kept b.bus.scl b.bus.sda held))
     where
-      edge_kept : (p d : Bool) → Open ops keeps h.answer h.opened b.part → Open ops keeps h.answer (next (edge p p d d) (pulls_by b.bus.scl h.opened h.answer h.byte) h.opened) b.part
+      edge_kept : (p d : Bool) → Open ops keeps h.answer h.ongoing b.part → Open ops keeps h.answer (next (edge p p d d) (pulls_by b.bus.scl h.ongoing h.answer h.byte) h.ongoing) b.part
       edge_kept true true z = z
       edge_kept true false z = z
       edge_kept false d z = z
 
   held_finish : (t : Bool) (b : Board S) (q : ℕ) (c : Board S) (h : History) → (numbered ops b q && ops.busy b.part q) ≡ t → Advances ops b (Finish q) c h
-      → Open ops keeps h.answer h.opened b.part → let n = onward ops b (Finish q) c h in Open ops keeps n.answer n.opened c.part
-  held_finish true b q c h e a held = let f = keeps.finishes b.part q in rw (a.part, e) (onto_open ops keeps h.answer h.opened b.part _ f.fixed f.fades held)
-  held_finish false b q c h e a held = let same = a.refused e in subst (λ d. let n = onward ops b (Finish q) d h in Open ops keeps n.answer n.opened d.part) (sym same) (rw e held)
+      → Open ops keeps h.answer h.ongoing b.part → let n = onward ops b (Finish q) c h in Open ops keeps n.answer n.ongoing c.part
+  held_finish true b q c h e a held = let f = keeps.finishes b.part q in rw (a.part, e) (onto_open ops keeps h.answer h.ongoing b.part _ f.fixed f.fades held)
+  held_finish false b q c h e a held = let same = a.refused e in subst (λ d. let n = onward ops b (Finish q) d h in Open ops keeps n.answer n.ongoing d.part) (sym same) (rw e held)
 
-  held_call : (b : Board S) (call : Call) (c : Board S) (h : History) → Advances ops b call c h → Open ops keeps h.answer h.opened b.part
-      → let n = onward ops b call c h in Open ops keeps n.answer n.opened c.part
+  held_call : (b : Board S) (call : Call) (c : Board S) (h : History) → Advances ops b call c h → Open ops keeps h.answer h.ongoing b.part
+      → let n = onward ops b call c h in Open ops keeps n.answer n.ongoing c.part
   held_call b (Sample x) c h a held = held_sample (ltb x 32) b x c h refl a held
   held_call b (Finish q) c h a held = held_finish _ b q c h refl a held
   held_call b (Cut p) c h a held = λ t e. absurd (none-some _ e)
@@ -223,7 +223,7 @@ module _ {S : Type 0} (ops : Ops S) (keeps : Keeps ops) where
     goes : (n : ℕ) → Advances ops (B n) (calls n) (B (suc n)) (H n)
     goes n = advances ops (B n) (calls n) (H n) (good ops b calls closed n)
 
-    held : (n : ℕ) → Open ops keeps (H n).answer (H n).opened (B n).part
+    held : (n : ℕ) → Open ops keeps (H n).answer (H n).ongoing (B n).part
     held zero = λ t e. absurd (none-some _ e)
     held (suc n) = held_call (B n) (calls n) (B (suc n)) (H n) (goes n) (held n)
 

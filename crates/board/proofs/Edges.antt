@@ -14,7 +14,7 @@ use Rattle.board.specs.declared.bus.Next.{Next}
 use Rattle.board.specs.declared.bus.Next.TheVariants.{ThenFirst, ThenLater, ThenGiven}
 use Rattle.board.specs.declared.bus.Phase.{Phase}
 use Rattle.board.specs.declared.bus.Phase.TheVariants.{Closed, Deaf, Taking, AckDue, AckPulled, AckRisen, Giving, Released, Wanted}
-use Rattle.board.specs.Engine.{with, opened, addressed, aimed, taken, whole, bit_taken, rise_at, fetch, go_on, shift, fall_at}
+use Rattle.board.specs.Engine.{with, no_bits, addressed, aimed, taken, whole, bit_taken, rise_at, fetch, go_on, shift, fall_at}
 use Rattle.board.specs.Samples.{bit_value, odd}
 use Rattle.board.specs.Wires.{rose, fell, Byte, Transfer, transfer, value, rising, address, reading, all_acked, acked_by, sending, giving, some_byte}
 use Rattle.board.specs.Runs.{free, ack, slot, pulls_in, pulls_by, offered, told, answer_after, byte_after}
@@ -127,7 +127,7 @@ module _ {S : Type 0} (ops : Ops S) where
       })
 
   kept_first : (b : Board S) (l : Levels) (answer : Bool) (byte a : ℕ) (o : Option Transfer) → (r : Risen (ThenFirst a) answer o)
-      → Went (with b (opened (First a)) b.part) false b.part (told fell l o) answer byte o
+      → Went (with b (no_bits (First a)) b.part) false b.part (told fell l o) answer byte o
   kept_first b l answer byte a o r =
       let f = r.follows in
       let bytes = r.x ∷ r.bs in
@@ -148,7 +148,7 @@ module _ {S : Type 0} (ops : Ops S) where
       })
 
   kept_later : (b : Board S) (l : Levels) (answer : Bool) (byte a : ℕ) (o : Option Transfer) → (r : Risen (ThenLater a) answer o)
-      → Went (with b (opened (Later a)) b.part) false b.part (told fell l o) answer byte o
+      → Went (with b (no_bits (Later a)) b.part) false b.part (told fell l o) answer byte o
   kept_later b l answer byte a o r =
       let f = r.follows in
       let bytes = r.x ∷ r.bs in

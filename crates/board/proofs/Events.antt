@@ -39,7 +39,7 @@ module _ {S : Type 0} (ops : Ops S) (keeps : Keeps ops) (number : S → ℕ) (se
   -- from the board b to c, with what was before, h
   pub data Event (b : Board S) (call : Call) (c : Board S) (h : History) : Type 0 where
     calm : CalmMove (see b.part) (see c.part) → (edge_of ops b call c ≡ stopped → ⊥) → (IsCut call → ⊥) → Event b call c h
-    stops : (l : Levels) → wp_of call ≡ l.wp → see c.part ≡ x9520.stop (x9520.level (see b.part) l) (clean h.opened) l → edge_of ops b call c ≡ stopped → (IsCut call → ⊥) → Event b call c h
+    stops : (l : Levels) → wp_of call ≡ l.wp → see c.part ≡ x9520.stop (x9520.level (see b.part) l) (clean h.ongoing) l → edge_of ops b call c ≡ stopped → (IsCut call → ⊥) → Event b call c h
     finishes : see c.part ≡ x9520.finish (see b.part) 0 → (edge_of ops b call c ≡ stopped → ⊥) → (IsCut call → ⊥) → Event b call c h
     cuts : (p : PowerCut) → see c.part ≡ x9520.cut (see b.part) p → (edge_of ops b call c ≡ stopped → ⊥) → IsCut call → Event b call c h
 
@@ -49,12 +49,12 @@ module _ {S : Type 0} (ops : Ops S) (keeps : Keeps ops) (number : S → ℕ) (se
   sample_event : (t : Bool) (b : Board S) (x : ℕ) (c : Board S) (h : History) → ltb x 32 ≡ t → Advances ops b (Sample x) c h → Event b (Sample x) c h
   sample_event true b x c h e a =
       let l = levels x in
-      let moves : c.part ≡ after ops b.part (levelling l ∷ told (edge_of ops b (Sample x) c) l h.opened) = a.part ∙ ap (after ops b.part) (cond-true _ _ _ e) in
+      let moves : c.part ≡ after ops b.part (levelling l ∷ told (edge_of ops b (Sample x) c) l h.ongoing) = a.part ∙ ap (after ops b.part) (cond-true _ _ _ e) in
       elim (is_stopped (edge_of ops b (Sample x) c)) [
-        | inl st ↦ stops l refl (ap see (moves ∙ ap (λ z. after ops b.part (levelling l ∷ told z l h.opened)) st) ∙ seat.stop (ops.level b.part l) (clean h.opened) l
-            ∙ ap (λ z. x9520.stop z (clean h.opened) l) (seat.level b.part l)) st (λ z. z)
+        | inl st ↦ stops l refl (ap see (moves ∙ ap (λ z. after ops b.part (levelling l ∷ told z l h.ongoing)) st) ∙ seat.stop (ops.level b.part l) (clean h.ongoing) l
+            ∙ ap (λ z. x9520.stop z (clean h.ongoing) l) (seat.level b.part l)) st (λ z. z)
         | inr n ↦ calm (subst (λ u. CalmMove (see b.part) (see u)) (sym moves)
-            (calm_after ops keeps number see seat (levelling l ∷ told (edge_of ops b (Sample x) c) l h.opened) b.part (tt, told_calm _ l h.opened n))) n (λ z. z)
+            (calm_after ops keeps number see seat (levelling l ∷ told (edge_of ops b (Sample x) c) l h.ongoing) b.part (tt, told_calm _ l h.ongoing n))) n (λ z. z)
       ]
   sample_event false b x c h e a = same_event b (Sample x) c h (a.refused e) (edge_same b.bus.scl b.bus.sda) (λ z. z)
 
@@ -84,17 +84,17 @@ module _ {S : Type 0} (ops : Ops S) (keeps : Keeps ops) (number : S → ℕ) (se
 
   -- the chip's place, over each call
   place_sample : (t : Bool) (b : Board S) (x : ℕ) (c : Board S) (h : History) → ltb x 32 ≡ t → Advances ops b (Sample x) c h
-      → Open ops keeps number see seat h.answer h.opened b.part → let n = onward ops b (Sample x) c h in Open ops keeps number see seat n.answer n.opened c.part
+      → Open ops keeps number see seat h.answer h.ongoing b.part → let n = onward ops b (Sample x) c h in Open ops keeps number see seat n.answer n.ongoing c.part
   place_sample true b x c h e a p =
       let l = levels x in
-      let u = open_edge ops keeps number see seat b.bus.scl c.bus.scl b.bus.sda c.bus.sda l h.answer h.byte h.opened (ops.level b.part l)
-      (open_kept ops keeps number see seat h.answer h.opened b.part _ (level_keeping ops keeps number see seat b.part l) p) in
+      let u = open_edge ops keeps number see seat b.bus.scl c.bus.scl b.bus.sda c.bus.sda l h.answer h.byte h.ongoing (ops.level b.part l)
+      (open_kept ops keeps number see seat h.answer h.ongoing b.part _ (level_keeping ops keeps number see seat b.part l) p) in
       rw (a.part, e) u
   place_sample false b x c h e a p =
-      subst (λ d. let n = onward ops b (Sample x) d h in Open ops keeps number see seat n.answer n.opened d.part) (sym (a.refused e)) (rw e (kept b.bus.scl b.bus.sda p))
+      subst (λ d. let n = onward ops b (Sample x) d h in Open ops keeps number see seat n.answer n.ongoing d.part) (sym (a.refused e)) (rw e (kept b.bus.scl b.bus.sda p))
     where
-      kept : (q d : Bool) → Open ops keeps number see seat h.answer h.opened b.part
-          → Open ops keeps number see seat h.answer (next (edge q q d d) (pulls_by b.bus.scl h.opened h.answer h.byte) h.opened) b.part
+      kept : (q d : Bool) → Open ops keeps number see seat h.answer h.ongoing b.part
+          → Open ops keeps number see seat h.answer (next (edge q q d d) (pulls_by b.bus.scl h.ongoing h.answer h.byte) h.ongoing) b.part
       kept true true z = z
       kept true false z = z
       kept false d z = z
@@ -109,12 +109,12 @@ module _ {S : Type 0} (ops : Ops S) (keeps : Keeps ops) (number : S → ℕ) (se
   finish_keeping s q = record { mode = finish_mode s q; owner = (keeps.finishes s q).fixed.owner; number_is = seat.fixed s (finishing q) }
 
   place_finish : (t : Bool) (b : Board S) (q : ℕ) (c : Board S) (h : History) → (numbered ops b q && ops.busy b.part q) ≡ t → Advances ops b (Finish q) c h
-      → Open ops keeps number see seat h.answer h.opened b.part → let n = onward ops b (Finish q) c h in Open ops keeps number see seat n.answer n.opened c.part
-  place_finish true b q c h e a p = rw (a.part, e) (open_kept ops keeps number see seat h.answer h.opened b.part _ (finish_keeping b.part q) p)
-  place_finish false b q c h e a p = subst (λ d. let n = onward ops b (Finish q) d h in Open ops keeps number see seat n.answer n.opened d.part) (sym (a.refused e)) (rw e p)
+      → Open ops keeps number see seat h.answer h.ongoing b.part → let n = onward ops b (Finish q) c h in Open ops keeps number see seat n.answer n.ongoing c.part
+  place_finish true b q c h e a p = rw (a.part, e) (open_kept ops keeps number see seat h.answer h.ongoing b.part _ (finish_keeping b.part q) p)
+  place_finish false b q c h e a p = subst (λ d. let n = onward ops b (Finish q) d h in Open ops keeps number see seat n.answer n.ongoing d.part) (sym (a.refused e)) (rw e p)
 
-  place_call : (b : Board S) (call : Call) (c : Board S) (h : History) → Advances ops b call c h → Open ops keeps number see seat h.answer h.opened b.part
-      → let n = onward ops b call c h in Open ops keeps number see seat n.answer n.opened c.part
+  place_call : (b : Board S) (call : Call) (c : Board S) (h : History) → Advances ops b call c h → Open ops keeps number see seat h.answer h.ongoing b.part
+      → let n = onward ops b call c h in Open ops keeps number see seat n.answer n.ongoing c.part
   place_call b (Sample x) c h a p = place_sample (ltb x 32) b x c h refl a p
   place_call b (Finish q) c h a p = place_finish _ b q c h refl a p
   place_call b (Cut w) c h a p = λ t e. absurd (none-some _ e)
@@ -138,17 +138,17 @@ module _ {S : Type 0} (ops : Ops S) (keeps : Keeps ops) (number : S → ℕ) (se
 
     number_is : (n : ℕ) → number (B n).part ≡ number b.part
     number_is zero = refl
-    number_is (suc n) = ap number (goes n).part ∙ number_after ops keeps number see seat (moves_of ops (B n) (calls n) (B (suc n)) (H n).opened) (B n).part ∙ number_is n
+    number_is (suc n) = ap number (goes n).part ∙ number_after ops keeps number see seat (moves_of ops (B n) (calls n) (B (suc n)) (H n).ongoing) (B n).part ∙ number_is n
 
     pub guarded : (n : ℕ) → Guarded (C n)
     guarded zero = subst Guarded (sym new) guarded_fresh
-    guarded (suc n) = subst (λ s. Guarded (see s)) (sym (goes n).part) (guarded_after ops keeps number see seat _ (B n).part (moves_sendable (B n) (calls n) (B (suc n)) (H n).opened) (guarded n))
+    guarded (suc n) = subst (λ s. Guarded (see s)) (sym (goes n).part) (guarded_after ops keeps number see seat _ (B n).part (moves_sendable (B n) (calls n) (B (suc n)) (H n).ongoing) (guarded n))
 
     pub waiting : (n : ℕ) → Waiting (C n)
     waiting zero = subst Waiting (sym new) waiting_fresh
-    waiting (suc n) = subst (λ s. Waiting (see s)) (sym (goes n).part) (waiting_after ops keeps number see seat (moves_of ops (B n) (calls n) (B (suc n)) (H n).opened) (B n).part (waiting n))
+    waiting (suc n) = subst (λ s. Waiting (see s)) (sym (goes n).part) (waiting_after ops keeps number see seat (moves_of ops (B n) (calls n) (B (suc n)) (H n).ongoing) (B n).part (waiting n))
 
-    placed : (n : ℕ) → Open ops keeps number see seat (H n).answer (H n).opened (B n).part
+    placed : (n : ℕ) → Open ops keeps number see seat (H n).answer (H n).ongoing (B n).part
     placed zero t e = absurd (none-some _ e)
     placed (suc n) t e = place_call (B n) (calls n) (B (suc n)) (H n) (goes n) (placed n) t e
 
@@ -168,13 +168,13 @@ module _ {S : Type 0} (ops : Ops S) (keeps : Keeps ops) (number : S → ℕ) (se
     -- at a clean STOP the chip holds a register byte exactly where that byte was sent to its register
     pub record Sent (n v : ℕ) : Type 0 where
       pub t : Transfer
-      pub opened : (H n).opened ≡ Some t
+      pub ongoing : (H n).ongoing ≡ Some t
       pub clean_is : is_clean t ≡ true
       pub bytes : values t.bytes ≡ v ∷ (255 ∷ (164 ∷ []))
       pub acked : EachPulled t.bytes
       pub mine : ops.owner (B n).part 82 ≡ Some (number b.part)
 
-    by_at : (n : ℕ) (t : Transfer) → (H n).opened ≡ Some t → is_clean t ≡ true → By ops keeps number see seat (B n).part (values t.bytes)
+    by_at : (n : ℕ) (t : Transfer) → (H n).ongoing ≡ Some t → is_clean t ≡ true → By ops keeps number see seat (B n).part (values t.bytes)
     by_at n t e c =
         let p = and_parts (eqb (length t.bits) 1) _ c in
         let a = and_parts (some_byte t.bytes) _ p.1 in
@@ -199,15 +199,15 @@ module _ {S : Type 0} (ops : Ops S) (keeps : Keeps ops) (number : S → ℕ) (se
             let a : addr (values (x ∷ bs)) ≡ 164 = ap addr is in
             (is, ap (λ z. ops.owner (B n).part (z / 2)) (sym a) ∙ m ∙ ap Some (number_is n))
 
-    pub sent_by : (n v : ℕ) → clean (H n).opened ≡ true → where_is (C n).mode ≡ holding v → Sent n v
+    pub sent_by : (n v : ℕ) → clean (H n).ongoing ≡ true → where_is (C n).mode ≡ holding v → Sent n v
     sent_by n v c h =
-        let w = clean_some ops keeps (H n).opened c in
+        let w = clean_some ops keeps (H n).ongoing c in
         let t = w.0 in
         let p = and_parts (some_byte t.bytes) _ (and_parts (eqb (length t.bits) 1) _ w.1.1).1 in
         let r = holds_at n v t.bytes p.0 (by_at n t w.1.0 w.1.1) h in
-        record { t = t; opened = w.1.0; clean_is = w.1.1; bytes = r.0; acked = each_pulled t.bytes p.1 (ap odd (sym (addr_is t.bytes) ∙ ap addr r.0)); mine = r.1 }
+        record { t = t; ongoing = w.1.0; clean_is = w.1.1; bytes = r.0; acked = each_pulled t.bytes p.1 (ap odd (sym (addr_is t.bytes) ∙ ap addr r.0)); mine = r.1 }
 
-    pub held_by : (n v : ℕ) (t : Transfer) → (H n).opened ≡ Some t → is_clean t ≡ true → values t.bytes ≡ v ∷ (255 ∷ (164 ∷ []))
+    pub held_by : (n v : ℕ) (t : Transfer) → (H n).ongoing ≡ Some t → is_clean t ≡ true → values t.bytes ≡ v ∷ (255 ∷ (164 ∷ []))
         → ops.owner (B n).part 82 ≡ Some (number b.part) → where_is (C n).mode ≡ holding v
     held_by n v t e c is mine =
         let r : At ops keeps number see seat (B n).part 164 (v ∷ (255 ∷ (164 ∷ []))) = subst (By ops keeps number see seat (B n).part) is (by_at n t e c) in

@@ -44,7 +44,7 @@ module _ {S : Type 0} (ops : Ops S) (keeps : Keeps ops) (number : S → ℕ) (se
   IsStop n = edge_of ops (B n) (calls n) (B (suc n)) ≡ stopped
 
   abbrev pub clean_at : ℕ → Bool
-  clean_at n = clean (history ops b calls n).opened
+  clean_at n = clean (history ops b calls n).ongoing
 
   pub writes : (n v : ℕ) → IsStop n → clean_at n ≡ true → where_is (C n).mode ≡ holding v → wp_forbids (is_some (staged_at (C n).eeprom 259)) (wp_of (calls n)) (stored_register (C n)) ≡ false → W n v
   writes n v st c h p =
@@ -52,7 +52,7 @@ module _ {S : Type 0} (ops : Ops S) (keeps : Keeps ops) (number : S → ℕ) (se
       record {
         stop = st;
         t = s.t;
-        opened = s.opened;
+        ongoing = s.ongoing;
         clean = s.clean_is;
         sent = s.bytes;
         acked = s.acked;
@@ -62,7 +62,7 @@ module _ {S : Type 0} (ops : Ops S) (keeps : Keeps ops) (number : S → ℕ) (se
 
   -- what is written is what the chip holds
   pub holds : (n v : ℕ) → W n v → where_is (C n).mode ≡ holding v
-  holds n v w = held_by ops keeps number see seat b closed new calls n v w.t w.opened w.clean w.sent w.mine
+  holds n v w = held_by ops keeps number see seat b closed new calls n v w.t w.ongoing w.clean w.sent w.mine
 
   pub one_byte : (n v u : ℕ) → W n v → W n u → v ≡ u
   one_byte n v u p q = ap held_byte (sym (holds n v p) ∙ holds n u q)
@@ -71,7 +71,7 @@ module _ {S : Type 0} (ops : Ops S) (keeps : Keeps ops) (number : S → ℕ) (se
   passed n v w = rw (sym (staged_is ops keeps number see seat b closed new calls n 259), sym (cell_is ops keeps number see seat b closed new calls n 259)) w.passes
 
   clean_by : (n v : ℕ) → W n v → clean_at n ≡ true
-  clean_by n v w = ap clean w.opened ∙ w.clean
+  clean_by n v w = ap clean w.ongoing ∙ w.clean
 
   guard : (n : ℕ) → Guarded (C n)
   guard n = guarded ops keeps number see seat b closed new calls n

@@ -12,7 +12,7 @@ use Rattle.board.specs.declared.call.Call.TheVariants.{Sample, Finish, Cut}
 use Rattle.board.specs.declared.bus.Kind.TheVariants.{Address}
 use Rattle.board.specs.declared.bus.Phase.{Phase}
 use Rattle.board.specs.declared.bus.Phase.TheVariants.{Closed, Taking}
-use Rattle.board.specs.Engine.{opened, addressed, bit_taken, rise_at, fall_at, lower, act, level, move, moved, sampled, finish_by, numbered}
+use Rattle.board.specs.Engine.{no_bits, addressed, bit_taken, rise_at, fall_at, lower, act, level, move, moved, sampled, finish_by, numbered}
 use Rattle.board.specs.Samples.{bit_value, odd, levels}
 use Rattle.board.specs.Wires.{Edge, steady, started, stopped, rose, fell, edge, value, Transfer, clean}
 use Rattle.board.specs.Runs.{History, told, step, state, history, edge_of, edge_at}
@@ -129,7 +129,7 @@ module _ {S : Type 0} (ops : Ops S) where
   call_coming b (Finish k) v e s t c h = finish_coming (numbered ops b k) (ops.busy b.part k) b k v e
   call_coming b (Cut p) v e s t c h = absurd (c tt)
 
-  module _ (b : Board S) (new : b.bus.phase ≡ opened Address) (calls : ℕ → Call) where
+  module _ (b : Board S) (new : b.bus.phase ≡ no_bits Address) (calls : ℕ → Call) where
     phase_at : (n : ℕ) → ((j : ℕ) → j < n → Plain ops b calls j) → length (bits ops b calls n) ≤ 7 → (state ops b calls n).bus.phase ≡ coming (bits ops b calls n)
     phase_at zero h few = new
     phase_at (suc n) h few =
@@ -175,7 +175,7 @@ module _ {S : Type 0} (ops : Ops S) where
   -- SCL and SDA HIGH, and then SDA LOW with SCL HIGH
   pulled_down : (p d : Bool) (ph : Phase) (s : S) (l : Levels) → p ≡ true → d ≡ true
       → let c = move ops (record { bus = record { scl = p; sda = d; phase = ph }; part = s }) true false l in
-      (c.bus.phase ≡ opened Address) × (c.part ≡ ops.start (ops.level s l))
+      (c.bus.phase ≡ no_bits Address) × (c.part ≡ ops.start (ops.level s l))
   pulled_down true true ph s l e f = (refl, refl)
   pulled_down true false ph s l e f = absurd (clash f)
   pulled_down false d ph s l e f = absurd (clash e)
@@ -184,7 +184,7 @@ module _ {S : Type 0} (ops : Ops S) where
   down b x t e f = cond-true _ _ _ t ∙ ap (λ c. move ops b c (odd (x / 2)) (levels x)) e ∙ ap (λ d. move ops b true d (levels x)) f
 
 module _ {S : Type 0} (ops : Ops S) (keeps : Keeps ops) where
-  awaits_at : (c : Board S) (s : S) → c.bus.phase ≡ opened Address → c.part ≡ ops.start s → Awaits ops c
+  awaits_at : (c : Board S) (s : S) → c.bus.phase ≡ no_bits Address → c.part ≡ ops.start s → Awaits ops c
   awaits_at c s e f = record {
     unstaged = λ k i. ap (λ u. ops.staged u k i) f ∙ (keeps.starts s).unstaged k i;
     unheard = λ x. ap (λ u. ops.heard u x) f ∙ (keeps.starts s).unheard x;
@@ -211,7 +211,7 @@ module _ {S : Type 0} (ops : Ops S) (keeps : Keeps ops) where
   sample_cell : (t : Bool) (b : Board S) (x : ℕ) (c : Board S) (h : History) (k i : ℕ) → ltb x 32 ≡ t → Advances ops b (Sample x) c h → ops.cell c.part k i ≡ ops.cell b.part k i
   sample_cell true b x c h k i e a =
       ap (λ s. ops.cell s k i) (a.part ∙ ap (after ops b.part) (cond-true _ _ _ e))
-      ∙ told_cell (edge_of ops b (Sample x) c) (levels x) h.opened (ops.level b.part (levels x)) k i
+      ∙ told_cell (edge_of ops b (Sample x) c) (levels x) h.ongoing (ops.level b.part (levels x)) k i
       ∙ (keeps.levels b.part (levels x)).calm.lasting.cell k i
   sample_cell false b x c h k i e a = ap (λ z. ops.cell z.part k i) (a.refused e)
 

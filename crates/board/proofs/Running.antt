@@ -93,12 +93,12 @@ module _ {S : Type 0} (ops : Ops S) where
 
   -- the board b after what was before, h
   pub record Good (b : Board S) (h : History) : Type 0 where
-    pub tied : Tied b.bus.phase b.bus.scl h.answer h.byte h.opened
+    pub tied : Tied b.bus.phase b.bus.scl h.answer h.byte h.ongoing
     pub low : pulls_now b.bus.phase ≡ true → b.bus.sda ≡ false
 
   pub record Advances (b : Board S) (k : Call) (c : Board S) (h : History) : Type 0 where
     pub good : Good c (onward ops b k c h)
-    pub part : c.part ≡ after ops b.part (moves_of ops b k c h.opened)
+    pub part : c.part ≡ after ops b.part (moves_of ops b k c h.ongoing)
     pub scl : c.bus.scl ≡ scl_after b.bus.scl k
     pub sda : c.bus.sda ≡ sda_after b.bus.sda k (pulls c.bus.scl (onward ops b k c h))
     pub refused : Refused ops b k → c ≡ b
@@ -113,9 +113,9 @@ module _ {S : Type 0} (ops : Ops S) where
       let l = levels x in
       let up = level ops b l in
       let w = (moved ops b x).bus.sda in
-      let went = acts b.bus.scl (odd x) b.bus.sda w up l h.answer h.byte h.opened g.tied in
-      let seen = wired b.bus.scl (odd x) b.bus.sda w (odd (x / 2)) up l h.answer h.byte h.opened g.tied g.low refl in
-      let moves = moves_of ops b (Sample x) (moved ops b x) h.opened in
+      let went = acts b.bus.scl (odd x) b.bus.sda w up l h.answer h.byte h.ongoing g.tied in
+      let seen = wired b.bus.scl (odd x) b.bus.sda w (odd (x / 2)) up l h.answer h.byte h.ongoing g.tied g.low refl in
+      let moves = moves_of ops b (Sample x) (moved ops b x) h.ongoing in
       let pull : pulls (odd x) (onward ops b (Sample x) (moved ops b x) h) ≡ pulls_now (moved ops b x).bus.phase = rw e (pull_of _ _ _ _ _ went.tied) in
       record {
         good = record { tied = rw e went.tied; low = low_after w (odd (x / 2)) _ seen };
@@ -126,8 +126,8 @@ module _ {S : Type 0} (ops : Ops S) where
       }
 
   -- a call that changes nothing
-  idles : (b : Board S) (k : Call) (h : History) → moves_of ops b k b h.opened ≡ [] → edge_of ops b k b ≡ steady → scl_after b.bus.scl k ≡ b.bus.scl
-      → ((p : Bool) → sda_after b.bus.sda k p ≡ b.bus.sda) → (onward ops b k b h).opened ≡ h.opened → Good b h → Advances b k b h
+  idles : (b : Board S) (k : Call) (h : History) → moves_of ops b k b h.ongoing ≡ [] → edge_of ops b k b ≡ steady → scl_after b.bus.scl k ≡ b.bus.scl
+      → ((p : Bool) → sda_after b.bus.sda k p ≡ b.bus.sda) → (onward ops b k b h).ongoing ≡ h.ongoing → Good b h → Advances b k b h
   idles b k h m e c d o g = record {
     good = record { tied = rw (m, o) g.tied; low = g.low };
     part = rw m refl;

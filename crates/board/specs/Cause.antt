@@ -29,7 +29,7 @@ pub record Writes {S : Type 0} (ops : Ops S) (b : Board S) (call : Call) (c : Bo
   pub stop : edge_of ops b call c ≡ stopped
   pub low : wp_of call ≡ false
   pub t : Transfer
-  pub opened : h.opened ≡ Some t
+  pub ongoing : h.ongoing ≡ Some t
   pub clean : is_clean t ≡ true
   pub writing : reading t.bytes ≡ false
   pub mine : ops.owner b.part (address t.bytes / 2) ≡ Some k

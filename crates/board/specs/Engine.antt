@@ -42,8 +42,8 @@ clean (Released address) = false
 clean (Wanted address) = false
 
 -- a byte of a kind, of which no bit has come
-abbrev pub opened : Kind → Phase
-opened kind = Taking kind 0 0
+abbrev pub no_bits : Kind → Phase
+no_bits kind = Taking kind 0 0
 
 -- both wires HIGH before, no transfer open, nothing pulled
 abbrev pub idle_bus : Bus
@@ -102,8 +102,8 @@ module _ {S : Type 0} where
     fetch b a = with b (Giving a 0 (ops.given b.part a % 128 * 2) (odd (ops.given b.part a / 128))) (ops.give b.part a)
 
     abbrev pub go_on : Next → Board S → Board S
-    go_on (ThenFirst a) b = with b (opened (First a)) b.part
-    go_on (ThenLater a) b = with b (opened (Later a)) b.part
+    go_on (ThenFirst a) b = with b (no_bits (First a)) b.part
+    go_on (ThenLater a) b = with b (no_bits (Later a)) b.part
     go_on (ThenGiven a) b = fetch b a
 
     -- the next bit of a byte given, with whether there is one; after the eighth SDA is released
@@ -127,7 +127,7 @@ module _ {S : Type 0} where
 
     -- START opens a transfer, and calls off an ACK or a byte still to come
     abbrev pub start : Board S → Board S
-    start b = with b (opened Address) (ops.start b.part)
+    start b = with b (no_bits Address) (ops.start b.part)
 
     -- after a STOP nothing is taken until START
     abbrev pub stop : Board S → Levels → Board S

@@ -29,7 +29,7 @@ module _ {S : Type 0} (ops : Ops S) (b : Board S) (calls : ℕ → Call) (k : �
   pub record Registers (n v : ℕ) : Type 0 where
     pub stop : edge_of ops (state ops b calls n) (calls n) (state ops b calls (suc n)) ≡ stopped
     pub t : Transfer
-    pub opened : (history ops b calls n).opened ≡ Some t
+    pub ongoing : (history ops b calls n).ongoing ≡ Some t
     pub clean : is_clean t ≡ true
     pub sent : values t.bytes ≡ v ∷ (255 ∷ (164 ∷ []))
     pub acked : EachPulled t.bytes

@@ -13,7 +13,7 @@ use Rattle.board.specs.Wires.{Edge, steady, started, stopped, rose, fell, edge, 
 -- What the wires have shown and the part has said: the open transfer, if any, with the answer of the part to the byte
 -- that it was offered last, and the byte that it gave last.
 pub record History : Type 0 where
-  pub opened : Option Transfer
+  pub ongoing : Option Transfer
   pub answer : Bool
   pub byte : ℕ
 
@@ -44,7 +44,7 @@ pulls_by scl (Some t) answer byte = pulls_in (slot scl t) answer byte
 
 -- whether a part pulls SDA, by SCL and what was before
 abbrev pub pulls : Bool → History → Bool
-pulls scl h = pulls_by scl h.opened h.answer h.byte
+pulls scl h = pulls_by scl h.ongoing h.answer h.byte
 
 -- A whole byte that is sent is offered to the part: as the address byte, the first after it, or a later one.
 abbrev pub offered : Levels → List Byte → ℕ → Move
@@ -116,15 +116,15 @@ module _ {S : Type 0} (ops : Ops S) where
 
   -- the open transfer after a call; a power cut ends it
   abbrev pub open_after : Board S → Call → Board S → History → Option Transfer
-  open_after b (Sample x) c h = next (edge_of b (Sample x) c) (pulls b.bus.scl h) h.opened
-  open_after b (Finish k) c h = h.opened
+  open_after b (Sample x) c h = next (edge_of b (Sample x) c) (pulls b.bus.scl h) h.ongoing
+  open_after b (Finish k) c h = h.ongoing
   open_after b (Cut p) c h = None
 
   abbrev pub onward : Board S → Call → Board S → History → History
   onward b k c h = record {
-    opened = open_after b k c h;
-    answer = answer_after b.part (moves_of b k c h.opened) h.answer;
-    byte = byte_after b.part (moves_of b k c h.opened) h.byte;
+    ongoing = open_after b k c h;
+    answer = answer_after b.part (moves_of b k c h.ongoing) h.answer;
+    byte = byte_after b.part (moves_of b k c h.ongoing) h.byte;
   }
 
   -- A run: the board b, and the calls that it is given.
@@ -136,7 +136,7 @@ module _ {S : Type 0} (ops : Ops S) where
 
     -- what was before, if no transfer was open at first
     abbrev pub history : ℕ → History
-    history zero = record { opened = None; answer = false; byte = 0 }
+    history zero = record { ongoing = None; answer = false; byte = 0 }
     history (suc n) = onward (state n) (calls n) (state (suc n)) (history n)
 
     -- between state n and the next: the edge, and the moves of the part
@@ -144,7 +144,7 @@ module _ {S : Type 0} (ops : Ops S) where
     edge_at n = edge_of (state n) (calls n) (state (suc n))
 
     abbrev pub moves_at : ℕ → List Move
-    moves_at n = moves_of (state n) (calls n) (state (suc n)) (history n).opened
+    moves_at n = moves_of (state n) (calls n) (state (suc n)) (history n).ongoing
 
   -- some calls lead from one board to another
   unfoldable pub Reaches : Board S → Board S → Type 0

@@ -126,7 +126,7 @@ impl<P: Part> Board<P> {
         ensures { self.new ≡ start P.Part.ops self.old }
     {
         self.part.start();
-        self.bus.phase = Phase::opened(Kind::Address);
+        self.bus.phase = Phase::no_bits(Kind::Address);
     }
 
     #[inline(never)]
@@ -249,10 +249,10 @@ impl<P: Part> Board<P> {
     {
         match next {
             Next::ThenFirst { address } => {
-                self.bus.phase = Phase::opened(Kind::First { address });
+                self.bus.phase = Phase::no_bits(Kind::First { address });
             }
             Next::ThenLater { address } => {
-                self.bus.phase = Phase::opened(Kind::Later { address });
+                self.bus.phase = Phase::no_bits(Kind::Later { address });
             }
             Next::ThenGiven { address } => self.fetch(address),
         }

@@ -1,6 +1,6 @@
 // Where the bus stands between two samples.
 ghost use Rattle.std.specs.Prelude.{◌≡◌};
-ghost use Rattle.board.specs.Engine.{pulls, clean, opened, idle_bus};
+ghost use Rattle.board.specs.Engine.{pulls, clean, no_bits, idle_bus};
 
 // What a byte that the master sends is in its transfer.
 #[derive(Clone, Copy, PartialEq, Eq, Debug)]
@@ -62,8 +62,8 @@ pub enum Phase {
 
 impl Phase {
     // The master begins to send a byte.
-    pub(crate) fn opened(kind: Kind) -> Phase
-        ensures { result ≡ opened kind }
+    pub(crate) fn no_bits(kind: Kind) -> Phase
+        ensures { result ≡ no_bits kind }
     {
         Phase::Taking {
             kind,

@@ -23,7 +23,7 @@ use Rattle.controller.specs.Fetching.{Still, after, FetchesCells, Ds1846Fetches,
 use Rattle.controller.specs.Jobs.{reading, write_byte, read_byte}
 use Rattle.controller.specs.Master.{run}
 use Rattle.controller.specs.Storing.{Brings, taps_of}
-use Rattle.controller.specs.Work.{on_ack, on_ok, done, later, bytes, opened, sent, given, addressed, fetched, read as read_work}
+use Rattle.controller.specs.Work.{on_ack, on_ok, done, later, bytes, begun, sent, given, addressed, fetched, read as read_work}
 use Rattle.controller.proofs.AllBytes.{one_byte}
 use Rattle.controller.proofs.Bringing.{idle_board, now, asked, brings_now}
 use Rattle.controller.proofs.Ds1846Storing.{ds_reads}
@@ -67,15 +67,15 @@ module _ {S A : Type 0} (ops : Ops S) (f : S → A) (leaves : Leaves ops f) (l :
   rest_leaves y x [] (inr h) s = refl
   rest_leaves y x (z ∷ xs) (inr h) s = absurd (omega (arith, h))
 
-  opened_leaves : (n y : ℕ) (go : S → S × Told (List ℕ)) → ((s : S) → f (go s).0 ≡ f s) → (s : S) → f (opened ops l n y go s).0 ≡ f s
-  opened_leaves n y go h s = on_ack_leaves (ops.hears (ops.start s) y) n go (ops.address (ops.start s) y) h ∙ leaves.address (ops.start s) y ∙ leaves.start s
+  begun_leaves : (n y : ℕ) (go : S → S × Told (List ℕ)) → ((s : S) → f (go s).0 ≡ f s) → (s : S) → f (begun ops l n y go s).0 ≡ f s
+  begun_leaves n y go h s = on_ack_leaves (ops.hears (ops.start s) y) n go (ops.address (ops.start s) y) h ∙ leaves.address (ops.start s) y ∙ leaves.start s
 
   addressed_leaves : (a : ℕ) (aim : List ℕ) → Later aim → (s : S) → f (addressed ops l a aim s).0 ≡ f s
-  addressed_leaves a [] h s = opened_leaves 0 (read_byte a) done (λ s. refl) s
+  addressed_leaves a [] h s = begun_leaves 0 (read_byte a) done (λ s. refl) s
   addressed_leaves a (x ∷ xs) h s =
-      on_ok_leaves (sent ops l a (x ∷ xs) s).1 (opened ops l (1 + length (x ∷ xs)) (read_byte a) done) (sent ops l a (x ∷ xs) s).0
-      (opened_leaves (1 + length (x ∷ xs)) (read_byte a) done (λ s. refl))
-      ∙ opened_leaves 0 (write_byte a) (bytes ops l (write_byte a) (x ∷ xs))
+      on_ok_leaves (sent ops l a (x ∷ xs) s).1 (begun ops l (1 + length (x ∷ xs)) (read_byte a) done) (sent ops l a (x ∷ xs) s).0
+      (begun_leaves (1 + length (x ∷ xs)) (read_byte a) done (λ s. refl))
+      ∙ begun_leaves 0 (write_byte a) (bytes ops l (write_byte a) (x ∷ xs))
       (λ s. on_ack_leaves (ops.aims s (write_byte a) l x) 1 (later ops l (write_byte a) 2 xs) (ops.aim s (write_byte a) l x) (rest_leaves (write_byte a) x xs h) ∙ leaves.aim s (write_byte a) l x) s
 
   given_leaves : (y n : ℕ) (s : S) → f (given ops l y n s).0 ≡ f s

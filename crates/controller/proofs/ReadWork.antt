@@ -14,7 +14,7 @@ use Rattle.controller.specs.Bytes.{receive, start}
 use Rattle.controller.specs.Cells.{AllBytes}
 use Rattle.controller.specs.Jobs.{receive_all, read_byte, write_byte, open_with, close, unless_refused, stop_refused, end_refused, addressing, sending, reading}
 use Rattle.controller.specs.Master.{ended, ◌then◌, run}
-use Rattle.controller.specs.Work.{given, done, on_ack, on_ok, opened, sent, addressed, fetched, on_idle, read as read_work}
+use Rattle.controller.specs.Work.{given, done, on_ack, on_ok, begun, sent, addressed, fetched, on_idle, read as read_work}
 use Rattle.controller.proofs.Bits.{taking, deaf, gone}
 use Rattle.controller.proofs.Ends.{first_start, next_start, deaf_stop}
 use Rattle.controller.proofs.ReceivedBytes.{coming, read_more, read_last}
@@ -52,7 +52,7 @@ module _ {S : Type 0} (ops : Ops S) (keeps : Keeps ops) (l : Levels) where
 
   -- after aim bytes, at a repeated START
   read_again : (n a y : ℕ) (t : Told (List ℕ)) (s : S) → Settled ops l s →
-      run ops (unless_refused t (open_with l n (read_byte a))) (left (Later y) t s) ≡ asks (read_byte a) (on_ok t (opened ops l n (read_byte a) done) s)
+      run ops (unless_refused t (open_with l n (read_byte a))) (left (Later y) t s) ≡ asks (read_byte a) (on_ok t (begun ops l n (read_byte a) done) s)
   read_again n a y (ok xs) s settled =
       read_address n a (taking true (Later y) s) (ops.start s) (ops.hears (ops.start s) (read_byte a)) false (keeps.settles.after_start s l settled)
       (next_start ops keeps l s settled true (Later y)) refl

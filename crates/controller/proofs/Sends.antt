@@ -23,9 +23,9 @@ module _ {S : Type 0} (ops : Ops S) (l : Levels) where
   unfolding send_one
   one_sent n x b c ack e f = onward ops (send l x) (λ ack. ended (acked n ack)) b c ack e (λ i. (c, f i))
 
-  pub opened : (n x : ℕ) (b c d : Board S) (r : Bool) (t : Told (List ℕ)) → run ops (start l) b ≡ (c, r) → run ops (send_one l n x) c ≡ (d, t) → run ops (open_with l n x) b ≡ (d, t)
+  pub opens : (n x : ℕ) (b c d : Board S) (r : Bool) (t : Told (List ℕ)) → run ops (start l) b ≡ (c, r) → run ops (send_one l n x) c ≡ (d, t) → run ops (open_with l n x) b ≡ (d, t)
   unfolding open_with
-  opened n x b c d r t e f = onward ops (start l) (λ _. send_one l n x) b c r e f
+  opens n x b c d r t e f = onward ops (start l) (λ _. send_one l n x) b c r e f
 
   -- one more of some bytes, with its ACK
   pub all_more : (n m i : ℕ) (xs : List ℕ) (b c : Board S) (r : Result (Unit {0}) Refusal) {z : Board S × Told (List ℕ)} → m ≡ n + 1 → i < length xs → is_err r ≡ false →

@@ -5,7 +5,7 @@ use Rattle.part.specs.Keeps.{Keeps, Settled}
 use Rattle.part.specs.Ops.{Ops}
 use Rattle.part.specs.declared.levels.Levels.{Levels}
 use Rattle.controller.specs.Jobs.{read_byte, write_byte}
-use Rattle.controller.specs.Work.{on_ack, on_ok, done, later, bytes, opened, sent, given, addressed}
+use Rattle.controller.specs.Work.{on_ack, on_ok, done, later, bytes, begun, sent, given, addressed}
 
 module _ {S : Type 0} (ops : Ops S) (keeps : Keeps ops) (l : Levels) where
   abbrev Settling : (S → S × Told (List ℕ)) → Type 0
@@ -29,23 +29,23 @@ module _ {S : Type 0} (ops : Ops S) (keeps : Keeps ops) (l : Levels) where
   bytes_settles y (x ∷ xs) s settled =
       on_ack_settles (ops.aims s y l x) 1 (later ops l y 2 xs) (later_settles y 2 xs) (ops.aim s y l x) (keeps.settles.after_aim s l y x settled)
 
-  opened_settles : (n y : ℕ) (go : S → S × Told (List ℕ)) → Settling go → Settling (opened ops l n y go)
-  opened_settles n y go f s settled =
+  begun_settles : (n y : ℕ) (go : S → S × Told (List ℕ)) → Settling go → Settling (begun ops l n y go)
+  begun_settles n y go f s settled =
       let started : Settled ops l (ops.start s) = keeps.settles.after_start s l settled in
       on_ack_settles (ops.hears (ops.start s) y) n go f (ops.address (ops.start s) y) (keeps.settles.after_address (ops.start s) l y started)
 
   pub sent_settles : (a : ℕ) (xs : List ℕ) → Settling (sent ops l a xs)
-  sent_settles a xs = opened_settles 0 (write_byte a) (bytes ops l (write_byte a) xs) (bytes_settles (write_byte a) xs)
+  sent_settles a xs = begun_settles 0 (write_byte a) (bytes ops l (write_byte a) xs) (bytes_settles (write_byte a) xs)
 
-  readdressed : (n a : ℕ) → Settling (opened ops l n (read_byte a) done)
-  readdressed n a = opened_settles n (read_byte a) done (λ s settled. settled)
+  readdressed : (n a : ℕ) → Settling (begun ops l n (read_byte a) done)
+  readdressed n a = begun_settles n (read_byte a) done (λ s settled. settled)
 
   pub addressed_settles : (a : ℕ) (aim : List ℕ) → Settling (addressed ops l a aim)
   addressed_settles a [] s settled = readdressed 0 a s settled
   addressed_settles a (x ∷ xs) s settled =
       let w : S × Told (List ℕ) = sent ops l a (x ∷ xs) s in
       let n : ℕ = 1 + length (x ∷ xs) in
-      on_ok_settles w.1 (opened ops l n (read_byte a) done) (readdressed n a) w.0 (sent_settles a (x ∷ xs) s settled)
+      on_ok_settles w.1 (begun ops l n (read_byte a) done) (readdressed n a) w.0 (sent_settles a (x ∷ xs) s settled)
 
   pub given_settles : (y n : ℕ) (s : S) → Settled ops l s → Settled ops l (given ops l y n s).0
   given_settles y zero s settled = settled

@@ -12,7 +12,7 @@ use Rattle.part.specs.declared.levels.Levels.{Levels}
 use Rattle.board.specs.Engine.{finish_by, numbered, finished}
 use Rattle.board.specs.declared.board.Board.{Board}
 use Rattle.controller.specs.Jobs.{write_byte, read_byte}
-use Rattle.controller.specs.Work.{on_ack, on_ok, done, is_ok, later, bytes, opened, sent, closed, written, given, addressed, fetched, read}
+use Rattle.controller.specs.Work.{on_ack, on_ok, done, is_ok, later, bytes, begun, sent, closed, written, given, addressed, fetched, read}
 use Rattle.controller.proofs.Over.{over}
 
 -- both address bytes of an address are its own
@@ -125,14 +125,14 @@ module _ {S C : Type 0} {ops : Ops S} {chip : Ops C} (sits : Sits ops chip) wher
     bytes_see y [] s = ends (y / 2) (ok []) s
     bytes_see y (x ∷ xs) s = acked_sees 1 _ _ (by_move (y / 2) s (aiming y l x) _ _ _ (sits.direct.aim s y l x)) (later_sees y 2 xs)
 
-    opened_sees : (n y : ℕ) (go : S → S × Told (List ℕ)) (own : C → C × Told (List ℕ)) → Follows (y / 2) go own → Follows (y / 2) (opened ops l n y go) (opened chip l n y own)
-    opened_sees n y go own f s =
+    begun_sees : (n y : ℕ) (go : S → S × Told (List ℕ)) (own : C → C × Told (List ℕ)) → Follows (y / 2) go own → Follows (y / 2) (begun ops l n y go) (begun chip l n y own)
+    begun_sees n y go own f s =
         acked_sees n go own
         (sees_then (λ _ t. (ops.address t y, ops.hears t y)) (λ _ c. (chip.address c y, chip.hears c y)) (always (y / 2) s starting (tt {0}) _ (sits.direct.seat.start s)) (λ _. address_sees y))
         f
 
     sent_sees : (a : ℕ) (xs : List ℕ) → Follows (a % 128) (sent ops l a xs) (sent chip l a xs)
-    sent_sees a xs = subst (λ b. Follows b (sent ops l a xs) (sent chip l a xs)) (write_half a) (opened_sees 0 (write_byte a) _ _ (bytes_see (write_byte a) xs))
+    sent_sees a xs = subst (λ b. Follows b (sent ops l a xs) (sent chip l a xs)) (write_half a) (begun_sees 0 (write_byte a) _ _ (bytes_see (write_byte a) xs))
 
     closed_sees : (a : ℕ) (t : Told (List ℕ)) → Follows a (λ s. closed ops l (s, t)) (λ c. closed chip l (c, t))
     closed_sees a t s = always a s (stopping (is_ok t) l) t _ (sits.direct.seat.stop s (is_ok t) l)
@@ -151,15 +151,15 @@ module _ {S C : Type 0} {ops : Ops S} {chip : Ops C} (sits : Sits ops chip) wher
         (by_move (y / 2) s (giving y) _ _ _ (sits.direct.give s y))
         (λ x t. let r = given_sees y n t in record { stays = r.stays; part = r.part; answer = λ m. ap (λ xs. x % 256 ∷ xs) (r.answer m) })
 
-    readdressed : (n a : ℕ) → Follows (a % 128) (opened ops l n (read_byte a) done) (opened chip l n (read_byte a) done)
+    readdressed : (n a : ℕ) → Follows (a % 128) (begun ops l n (read_byte a) done) (begun chip l n (read_byte a) done)
     readdressed n a =
-        subst (λ b. Follows b (opened ops l n (read_byte a) done) (opened chip l n (read_byte a) done)) (read_half a)
-        (opened_sees n (read_byte a) done done (ends (read_byte a / 2) (ok [])))
+        subst (λ b. Follows b (begun ops l n (read_byte a) done) (begun chip l n (read_byte a) done)) (read_half a)
+        (begun_sees n (read_byte a) done done (ends (read_byte a / 2) (ok [])))
 
     addressed_sees : (a : ℕ) (aim : List ℕ) → Follows (a % 128) (addressed ops l a aim) (addressed chip l a aim)
     addressed_sees a [] s = readdressed 0 a s
     addressed_sees a (x ∷ xs) s =
-        sees_then (λ t. on_ok t (opened ops l (1 + length (x ∷ xs)) (read_byte a) done)) (λ t. on_ok t (opened chip l (1 + length (x ∷ xs)) (read_byte a) done))
+        sees_then (λ t. on_ok t (begun ops l (1 + length (x ∷ xs)) (read_byte a) done)) (λ t. on_ok t (begun chip l (1 + length (x ∷ xs)) (read_byte a) done))
         (sent_sees a (x ∷ xs) s) (on_ok_sees (a % 128) _ _ (readdressed (1 + length (x ∷ xs)) a))
 
     fetched_sees : (y n : ℕ) (t : Told (List ℕ)) → Follows (y / 2) (fetched ops l y n t) (fetched chip l y n t)

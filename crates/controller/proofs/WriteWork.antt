@@ -19,7 +19,7 @@ use Rattle.controller.specs.Work.{on_ack, is_ok, later, bytes, sent, written, on
 use Rattle.controller.proofs.Bits.{taking, deaf, acks, offered, next_of, gone, answered}
 use Rattle.controller.proofs.Ends.{AfterAddress, first_start, clean_stop, deaf_stop}
 use Rattle.controller.proofs.Runs.{onward}
-use Rattle.controller.proofs.Sends.{one_sent as sent_one, opened, writes}
+use Rattle.controller.proofs.Sends.{one_sent as sent_one, opens, writes}
 use Rattle.controller.proofs.SentBytes.{byte_sent}
 use Rattle.controller.proofs.Settling.{sent_settles}
 
@@ -95,7 +95,7 @@ module _ {S : Type 0} (ops : Ops S) (keeps : Keeps ops) (l : Levels) where
   pub address_sent : (n y : ℕ) (b : Board S) (t : S) (ack high : Bool) → y < 256 → Settled ops l t → run ops (start l) b ≡ (taking false Address t, high) → ops.hears t y ≡ ack →
       run ops (open_with l n y) b ≡ (answered ops l ack (next_of ops l Address y) (ops.address t y), acked n ack)
   address_sent n y b t ack high small settled started e =
-      opened ops l n y b (taking false Address t) (answered ops l ack (next_of ops l Address y) (ops.address t y)) high (acked n ack) started
+      opens ops l n y b (taking false Address t) (answered ops l ack (next_of ops l Address y) (ops.address t y)) high (acked n ack) started
       (one_sent n y false ack Address t small settled e)
 
   -- START, the write address and the bytes

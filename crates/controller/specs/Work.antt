@@ -40,11 +40,11 @@ module _ {S : Type 0} (ops : Ops S) (l : Levels) where
   bytes y (x ∷ xs) s = on_ack (ops.aims s y l x) 1 (later y 2 xs) (ops.aim s y l x)
 
   -- START and the address byte y, number n of the job
-  abbrev pub opened : ℕ → ℕ → (S → S × Told (List ℕ)) → S → S × Told (List ℕ)
-  opened n y go s = on_ack (ops.hears (ops.start s) y) n go (ops.address (ops.start s) y)
+  abbrev pub begun : ℕ → ℕ → (S → S × Told (List ℕ)) → S → S × Told (List ℕ)
+  begun n y go s = on_ack (ops.hears (ops.start s) y) n go (ops.address (ops.start s) y)
 
   abbrev pub sent : ℕ → List ℕ → S → S × Told (List ℕ)
-  sent a xs s = opened 0 (write_byte a) (bytes (write_byte a) xs) s
+  sent a xs s = begun 0 (write_byte a) (bytes (write_byte a) xs) s
 
   -- the STOP of a write, clean where every byte got its ACK
   abbrev pub closed : S × Told (List ℕ) → S × Told (List ℕ)
@@ -61,9 +61,9 @@ module _ {S : Type 0} (ops : Ops S) (l : Levels) where
 
   -- the address of a read, after a write of aim bytes where there are some
   abbrev pub addressed : ℕ → List ℕ → S → S × Told (List ℕ)
-  addressed a [] s = opened 0 (read_byte a) done s
+  addressed a [] s = begun 0 (read_byte a) done s
   addressed a (x ∷ xs) s =
-      on_ok (sent a (x ∷ xs) s).1 (opened (1 + length (x ∷ xs)) (read_byte a) done) (sent a (x ∷ xs) s).0
+      on_ok (sent a (x ∷ xs) s).1 (begun (1 + length (x ∷ xs)) (read_byte a) done) (sent a (x ∷ xs) s).0
 
   -- the bytes of a read and its STOP, which is not clean: the last byte gets no ACK
   abbrev pub fetched : ℕ → ℕ → Told (List ℕ) → S → S × Told (List ℕ)

@@ -16,7 +16,7 @@ use Rattle.board.proofs.Running.{steps}
 use Rattle.reader.specs.Recording.{scl_after, sda_after, edge_at, open_after}
 use Rattle.reader.specs.declared.transfer.Transfer.{Transfer as Row}
 use Rattle.reader.specs.Transfers.{address_of, is_stop, Bounds, Closed, LeftOpen, IsTransfer, no_transfer, at, Reads}
-use Rattle.reader.specs.Agreement.{MasterHeld, Records, calls, opened_at, Alike, Agrees, ReadsRuns}
+use Rattle.reader.specs.Agreement.{MasterHeld, Records, calls, ongoing_at, Alike, Agrees, ReadsRuns}
 
 -- a sample byte tells both wires
 scl_told : (c d : Bool) → odd (bit_value c + 2 * bit_value d) ≡ c
@@ -173,13 +173,13 @@ low_pull : (t : Open) (answer : Bool) (byte : ℕ) → 8 ≤ length t.bits → s
 low_pull t answer byte long sends = rw (le-ltb (length t.bits) 8 long, sends) refl
 
 module _ {S : Type 0} (ops : Ops S) where
-  high_pull : (b c : Board S) (x : ℕ) (h : History) (t : Open) → ltb x 32 ≡ true → b.bus.scl ≡ false → c.bus.scl ≡ true → h.opened ≡ Some t
+  high_pull : (b c : Board S) (x : ℕ) (h : History) (t : Open) → ltb x 32 ≡ true → b.bus.scl ≡ false → c.bus.scl ≡ true → h.ongoing ≡ Some t
       → 8 ≤ length t.bits → sending t.bytes ≡ true → pulls true (onward ops b (Sample x) c h) ≡ h.answer
   high_pull b c x h t ok before after is long sends = rw (ok, before, after, is, ne_eqb (length t.bits) 7 (λ z. omega (arith, long, z)), le-ltb (length t.bits) 8 long) (rw sends refl)
 
   ninth : (b c : Board S) (x : ℕ) (h : History) → (ltb x 32 ≡ false → c ≡ b)
       → c.bus.sda ≡ sda_of b.bus.sda (Sample x) (pulls c.bus.scl (onward ops b (Sample x) c h)) → b.bus.scl ≡ false → c.bus.scl ≡ true
-      → Ninth (pulls b.bus.scl h) c.bus.sda h.opened
+      → Ninth (pulls b.bus.scl h) c.bus.sda h.ongoing
   ninth b c x h refused sda before after t is long sends pull = by (ltb x 32) refl
     where
       by : (q : Bool) → ltb x 32 ≡ q → c.bus.sda ≡ false
@@ -201,7 +201,7 @@ module _ {S : Type 0} (ops : Ops S) where
     E j = run_edge ops b (calls ops b samples) j
 
     abbrev O : ℕ → Option Open
-    O j = opened_at ops b samples j
+    O j = ongoing_at ops b samples j
 
     -- the recording's wires, edges and open transfers
     scl_same : (j : ℕ) → j ≤ n → scl_after xs j ≡ (B j).bus.scl

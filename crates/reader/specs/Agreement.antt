@@ -26,8 +26,8 @@ module _ {S : Type 0} (ops : Ops S) (b : Board S) (samples : ℕ → ℕ) where
   abbrev pub Records : ℕ → List ℕ → Type 0
   Records n xs = (length xs ≡ n) × ((j : ℕ) → j < n → let c = state ops b calls (suc j) in slice_index_or xs j 0 ≡ bit_value c.bus.scl + 2 * bit_value c.bus.sda)
 
-  abbrev pub opened_at : ℕ → Option Open
-  opened_at n = (history ops b calls n).opened
+  abbrev pub ongoing_at : ℕ → Option Open
+  ongoing_at n = (history ops b calls n).ongoing
 
   -- A record of the recording, r, and one of the run, s: the same, but that r may call a STOP clean which is not,
   -- where a master held the ninth bit of a byte.
@@ -36,12 +36,12 @@ module _ {S : Type 0} (ops : Ops S) (b : Board S) (samples : ℕ → ℕ) where
     pub last : r.last ≡ s.last
     pub address : r.address ≡ s.address
     pub ninths : r.ninths ≡ s.ninths
-    pub clean : (r.clean ≡ s.clean) ⊎ ((r.clean ≡ true) × (s.clean ≡ false) × ((t : Open) × ((opened_at r.last ≡ Some t) × MasterHeld t.bytes)))
+    pub clean : (r.clean ≡ s.clean) ⊎ ((r.clean ≡ true) × (s.clean ≡ false) × ((t : Open) × ((ongoing_at r.last ≡ Some t) × MasterHeld t.bytes)))
 
   -- the transfers of the run's first n samples, beside those read from its recording
   pub record Agrees (n : ℕ) (rows : List Transfer) : Type 0 where
     pub own : List Transfer
-    pub reads : Reads (run_edge ops b calls) opened_at n own
+    pub reads : Reads (run_edge ops b calls) ongoing_at n own
     pub many : length rows ≡ length own
     pub alike : (i : ℕ) → i < length rows → Alike (at rows i) (at own i)
 
