@@ -156,14 +156,14 @@ module _ {S : Type 0} where
     abbrev pub wire : Board S → Bool → Bool
     wire b sda = sda && not (pulls b.bus.phase)
 
-    abbrev pub note : Board S → Bool → Bool → Board S
-    note b scl sda = record { bus = record { scl = scl; sda = sda; phase = b.bus.phase }; part = b.part }
+    abbrev pub with_wires : Board S → Bool → Bool → Board S
+    with_wires b scl sda = record { bus = record { scl = scl; sda = sda; phase = b.bus.phase }; part = b.part }
 
     abbrev pub level : Board S → Levels → Board S
     level b l = record { bus = b.bus; part = ops.level b.part l }
 
     abbrev pub settle : Board S → Bool → Bool → Bool → Bool → Levels → Board S
-    settle b before sda-before scl sda l = note (act before scl sda-before (wire b sda) b l) scl (wire b sda)
+    settle b before sda-before scl sda l = with_wires (act before scl sda-before (wire b sda) b l) scl (wire b sda)
 
     -- In one sample the levels reach the part, a fall changes pulls, the wire's SDA is fixed, and then comes START, STOP or a rise.
     abbrev pub move : Board S → Bool → Bool → Levels → Board S

@@ -4,7 +4,7 @@ use Rattle.std.proofs.lemmas.Bool.{eqb-true, eqb-false, leb-true, leb-false}
 use Rattle.part.specs.Keeps.{Settled}
 use Rattle.part.specs.Ops.{Ops}
 use Rattle.part.specs.declared.levels.Levels.{Levels}
-use Rattle.board.specs.Engine.{whole, note, move}
+use Rattle.board.specs.Engine.{whole, with_wires, move}
 use Rattle.board.specs.Samples.{bit_value, odd}
 use Rattle.board.specs.declared.board.Board.{Board}
 use Rattle.board.specs.declared.bus.Kind.{Kind}
@@ -96,14 +96,14 @@ module _ {S : Type 0} (ops : Ops S) (l : Levels) where
   fallen w true n s = at false false (AckPulled n) s
   fallen w false n s = at false w Deaf s
 
-  note_at : (sda w : Bool) (kind : Kind) (v x : ℕ) (s : S) (ack : Bool) → acks kind s x ≡ ack →
-      note ops (whole ops kind (at false sda (Taking kind 7 v) s) l x) true w ≡ risen w ack (next_of kind x) (offered kind s x)
-  note_at sda w Address v x s true h = rw h refl
-  note_at sda w Address v x s false h = rw h refl
-  note_at sda w (First y) v x s true h = rw h refl
-  note_at sda w (First y) v x s false h = rw h refl
-  note_at sda w (Later y) v x s true h = rw h refl
-  note_at sda w (Later y) v x s false h = rw h refl
+  with_wires_at : (sda w : Bool) (kind : Kind) (v x : ℕ) (s : S) (ack : Bool) → acks kind s x ≡ ack →
+      with_wires ops (whole ops kind (at false sda (Taking kind 7 v) s) l x) true w ≡ risen w ack (next_of kind x) (offered kind s x)
+  with_wires_at sda w Address v x s true h = rw h refl
+  with_wires_at sda w Address v x s false h = rw h refl
+  with_wires_at sda w (First y) v x s true h = rw h refl
+  with_wires_at sda w (First y) v x s false h = rw h refl
+  with_wires_at sda w (Later y) v x s true h = rw h refl
+  with_wires_at sda w (Later y) v x s false h = rw h refl
 
   falls_to : (w ack : Bool) (n : Next) (s : S) → Settled ops l s → move ops (risen w ack n s) false w l ≡ fallen w ack n s
   falls_to true true n s h = λ i. at false false (AckPulled n) (h i)
@@ -149,7 +149,7 @@ module _ {S : Type 0} (ops : Ops S) (l : Levels) where
         let t : S = offered kind s x in
         three false true false true true true (at false sda here s) (at false true here s) (risen true ack n t) (fallen true ack n t)
         (λ i. at false true here (settled i))
-        ((λ i. note ops (whole ops kind (at false true here (settled i)) l (is i)) true true) ∙ note_at true true kind v x s ack e)
+        ((λ i. with_wires ops (whole ops kind (at false true here (settled i)) l (is i)) true true) ∙ with_wires_at true true kind v x s ack e)
         (falls_to true ack n t t_settled)
     eighth_bit sda false kind v x ack is e t_settled =
         let here : Phase = Taking kind 7 v in
@@ -157,5 +157,5 @@ module _ {S : Type 0} (ops : Ops S) (l : Levels) where
         let t : S = offered kind s x in
         three false true false false false false (at false sda here s) (at false false here s) (risen false ack n t) (fallen false ack n t)
         (λ i. at false false here (settled i))
-        ((λ i. note ops (whole ops kind (at false false here (settled i)) l (is i)) true false) ∙ note_at false false kind v x s ack e)
+        ((λ i. with_wires ops (whole ops kind (at false false here (settled i)) l (is i)) true false) ∙ with_wires_at false false kind v x s ack e)
         (falls_to false ack n t t_settled)
