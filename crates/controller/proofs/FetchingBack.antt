@@ -19,7 +19,7 @@ use Rattle.x9520.specs.declared.state.X9520.{X9520}
 use Rattle.board.specs.Engine.{idle_bus}
 use Rattle.board.specs.declared.board.Board.{Board}
 use Rattle.controller.specs.Cells.{AllBytes}
-use Rattle.controller.specs.Fetching.{Still, after, FetchesCells, Ds1846Fetches, X9520Fetches, Fetches}
+use Rattle.controller.specs.Fetching.{KeepsBytes, after_read, FetchesCells, Ds1846Fetches, X9520Fetches, Fetches}
 use Rattle.controller.specs.Jobs.{reading, write_byte, read_byte}
 use Rattle.controller.specs.Master.{run}
 use Rattle.controller.specs.Storing.{Brings, taps_of}
@@ -130,8 +130,8 @@ module _ {S : Type 0} (ops : Ops S) (keeps : Keeps ops) where
   as_busy false true f g = g refl
   as_busy false false f g = refl
 
-  still : (l : Levels) (a : ℕ) (aim : List ℕ) (n : ℕ) (b c : Board S) → c.part ≡ (read_work ops l a aim n b.part).0 → (k : ℕ) → Still ops k b c
-  still l a aim n b c is k =
+  keeps_bytes : (l : Levels) (a : ℕ) (aim : List ℕ) (n : ℕ) (b c : Board S) → c.part ≡ (read_work ops l a aim n b.part).0 → (k : ℕ) → KeepsBytes ops k b c
+  keeps_bytes l a aim n b c is k =
       let s : S = b.part in
       let under_way : (i : ℕ) → ops.under_way c.part k i ≡ ops.under_way s k i =
       λ i. ap (λ t. ops.under_way t k i) is ∙ read_leaves ops (λ t. ops.under_way t k i) (under_way_left k i) l a aim n (inl (λ t y x. (keeps.taking t y l x).lasting.under_way k i)) s in
@@ -176,7 +176,7 @@ latches_left = record {
 module _ {S : Type 0} (ops : Ops S) (keeps : Keeps ops) (l : Levels) (a : ℕ) (aim : List ℕ) (n : ℕ) (b : Board S)
     (small : AllBytes aim) (idle_b : b.bus ≡ idle_bus) (one : 1 ≤ n) (few : a < 128) where
   abbrev c : Board S
-  c = after ops l a aim n b
+  c = after_read ops l a aim n b
 
   part_is : c.part ≡ (read_work ops l a aim n b.part).0
   part_is = ap (λ w. w.0.part) (ap (run ops (reading l a aim n)) (idle_board b idle_b) ∙ read_run ops keeps l a aim n b.part small one)
@@ -205,7 +205,7 @@ module _ {S : Type 0} (ops : Ops S) (keeps : Keeps ops) (l : Levels) (a : ℕ) (
   ds1846_fetches sits mine =
       let was = asked sits (now sits b idle_b) in
       let then = shown_after sits in
-      let kept = still ops keeps l a aim n b c part_is (sits.number b.part) in
+      let kept = keeps_bytes ops keeps l a aim n b c part_is (sits.number b.part) in
       record {
         cells = fetches_cells sits 81 mine (λ i. ds_reads l i n (sits.see b.part));
         wipers = λ j. then.tap j ∙ tap_same (sits.see b.part).eeprom (sits.see c.part).eeprom (λ i. sym (then.cell i) ∙ kept.cell i ∙ was.cell i) j ∙ sym (was.tap j);
@@ -233,7 +233,7 @@ pub fetches : {S : Type 0} (ops : Ops S) (keeps : Keeps ops) (l : Levels) (a : �
 unfolding Fetches
 fetches ops keeps l a aim n b small idle_b one few =
     record {
-      still = still ops keeps l a aim n b (after ops l a aim n b) (part_is ops keeps l a aim n b small idle_b one few);
+      keeps_bytes = keeps_bytes ops keeps l a aim n b (after_read ops l a aim n b) (part_is ops keeps l a aim n b small idle_b one few);
       ds1846 = λ number see direct mine. ds1846_fetches ops keeps l a aim n b small idle_b one few (sitting keeps direct) mine;
       x9520 = λ number see direct mine. x9520_fetches ops keeps l a aim n b small idle_b one few (sitting keeps direct) mine;
     }

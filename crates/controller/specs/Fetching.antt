@@ -17,7 +17,7 @@ use Rattle.controller.specs.Storing.{Brings, Made, taps_of}
 
 module _ {S : Type 0} (ops : Ops S) where
   -- From the board b to the board c the chip with number k keeps its bytes, and what is under way in it.
-  pub record Still (k : ℕ) (b c : Board S) : Type 0 where
+  pub record KeepsBytes (k : ℕ) (b c : Board S) : Type 0 where
     pub cell : (i : ℕ) → ops.cell c.part k i ≡ ops.cell b.part k i
     pub under_way : (i : ℕ) → ops.under_way c.part k i ≡ ops.under_way b.part k i
     pub busy : ops.busy c.part k ≡ ops.busy b.part k
@@ -28,8 +28,8 @@ module _ {S : Type 0} (ops : Ops S) where
 
   -- a read job of n bytes at the levels l from the board b, to the address a after the aim bytes
   module _ (l : Levels) (a : ℕ) (aim : List ℕ) (n : ℕ) (b : Board S) where
-    abbrev pub after : Board S
-    after = (run ops (reading l a aim n) b).0
+    abbrev pub after_read : Board S
+    after_read = (run ops (reading l a aim n) b).0
 
     -- memory at the address m, aimed at cell i: cell after cell from there, and on from FFh to 00h
     abbrev pub FetchesCells : ℕ → ℕ → Type 0
@@ -43,21 +43,21 @@ module _ {S : Type 0} (ops : Ops S) where
 
     pub record Ds1846Fetches (k : ℕ) : Type 0 where
       pub cells : FetchesCells 81 k
-      pub wipers : WipersStill k b after
+      pub wipers : WipersStill k b after_read
 
     -- With one aim byte at most the wipers and the latches stay, whether the job is accepted or not: a second is a data byte, which may move a wiper or clear RWEL.
     pub record X9520Fetches (k : ℕ) (chip then : X9520) : Type 0 where
       pub cells : FetchesCells 80 k
       pub tap : FetchesTap k
-      pub wipers : length aim ≤ 1 → WipersStill k b after
+      pub wipers : length aim ≤ 1 → WipersStill k b after_read
       pub latches : length aim ≤ 1 → then.latches ≡ chip.latches
 
     -- whether the job is accepted or not, and whoever owns the address, every chip keeps its bytes
     pub record FetchesFrom : Type 0 where
-      pub still : (k : ℕ) → Still k b after
+      pub keeps_bytes : (k : ℕ) → KeepsBytes k b after_read
       pub ds1846 : (number : S → ℕ) (see : S → Ds1846) → Direct ops ds1846 number see → ops.owner b.part a ≡ Some (number b.part) → Ds1846Fetches (number b.part)
       pub x9520 : (number : S → ℕ) (see : S → X9520) → Direct ops x9520 number see → ops.owner b.part a ≡ Some (number b.part) →
-          X9520Fetches (number b.part) (see b.part) (see after.part)
+          X9520Fetches (number b.part) (see b.part) (see after_read.part)
 
 -- from idle wires
 unfoldable pub Fetches : {S : Type 0} → Ops S → Levels → ℕ → List ℕ → ℕ → Board S → Type 0
