@@ -9,7 +9,7 @@ use Rattle.part.specs.declared.levels.Levels.{Levels}
 use Rattle.board.specs.declared.board.Board.{Board}
 use Rattle.board.specs.Engine.{sampled, moved, move, sample_told}
 use Rattle.board.specs.Samples.{bit_value, odd}
-use Rattle.controller.specs.Master.{Master, ended, gives, ◌then◌, given, reads, run}
+use Rattle.controller.specs.Master.{Master, ended, gives, ◌then◌, after_sample, reads, run}
 use Rattle.controller.specs.Bytes.{sample_of, send_bit, read_bit, send_bits, read_bits, send, receive}
 
 pub byte_bit : (b : Bool) → bool_byte b ≡ bit_value b
@@ -59,8 +59,8 @@ its_level (Err refusal) level e = apart level (number refusal) (place refusal) (
 module _ {S : Type 0} (ops : Ops S) where
   -- the board after a sample of the tool, and the answer
   pub put_sample : (l : Levels) (scl sda : Bool) (b after : Board S) (level : Bool) → after ≡ move ops b scl sda l → level ≡ after.bus.sda
-      → ◌≡◌ {A = Board S × Bool} (given ops b (sample_of l scl sda), reads ops b (sample_of l scl sda)) (after, level)
-  unfolding given reads
+      → ◌≡◌ {A = Board S × Bool} (after_sample ops b (sample_of l scl sda), reads ops b (sample_of l scl sda)) (after, level)
+  unfolding after_sample reads
   put_sample l scl sda b after level e f =
       let same : moved ops b (sample_of l scl sda) ≡ move ops b scl sda l = λ i.
       move ops b (scl_bit l scl sda i) (sda_bit l scl sda i) (record { wp = wp_bit l scl sda i; v2ro = v2ro_bit l scl sda i; v3ro = v3ro_bit l scl sda i }) in
@@ -73,8 +73,8 @@ module _ {S : Type 0} (ops : Ops S) where
 
   -- the board after it, and the answer
   pub answered : (b after : Board S) (x : ℕ) (r : Result Bool Refusal) (level : Bool) → x < 32 → after ≡ sampled ops b x → told (λ level. level) r ≡ sample_told ops b x
-      → r ≡ Ok level → ◌≡◌ {A = Board S × Bool} (given ops b x, reads ops b x) (after, level)
-  unfolding given reads
+      → r ≡ Ok level → ◌≡◌ {A = Board S × Bool} (after_sample ops b x, reads ops b x) (after, level)
+  unfolding after_sample reads
   answered b after x r level h e f k =
       let s : sampled ops b x ≡ moved ops b x = rw (lt-ltb x 32 h) refl in
       let same : Ok (moved ops b x).bus.sda ≡ Ok level = sym (taken_sample b x r h f) ∙ k in
@@ -85,7 +85,7 @@ module _ {S : Type 0} (ops : Ops S) where
   -- one master after another
   pub after : {A B : Type 0} (m : Master A) (f : A → Master B) (b : Board S) → run ops (m then f) b ≡ run ops (f (run ops m b).1) (run ops m b).0
   after (ended a) f b = refl
-  after (gives x k) f b = after (k (reads ops b x)) f (given ops b x)
+  after (gives x k) f b = after (k (reads ops b x)) f (after_sample ops b x)
 
   -- a run goes on from where a part of it has come to
   pub onward : {A B : Type 0} (m : Master A) (f : A → Master B) (b c : Board S) (a : A) {z : Board S × B} → run ops m b ≡ (c, a) → run ops (f a) c ≡ z → run ops (m then f) b ≡ z

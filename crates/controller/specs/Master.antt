@@ -16,8 +16,8 @@ abbrev pub ◌then◌ : {A B : Type 0} → Master A → (A → Master B) → Mas
 
 module _ {S : Type 0} (ops : Ops S) where
   -- the board after a sample, and SDA on the wire then
-  unfoldable pub given : Board S → ℕ → Board S
-  given b x = sampled ops b x
+  unfoldable pub after_sample : Board S → ℕ → Board S
+  after_sample b x = sampled ops b x
 
   unfoldable pub reads : Board S → ℕ → Bool
   reads b x = (sampled ops b x).bus.sda
@@ -25,4 +25,4 @@ module _ {S : Type 0} (ops : Ops S) where
   -- the board after a master's run on it, and the master's answer
   abbrev pub run : {A : Type 0} → Master A → Board S → Board S × A
   run (ended a) b = (b, a)
-  run (gives x k) b = run (k (reads b x)) (given b x)
+  run (gives x k) b = run (k (reads b x)) (after_sample b x)
