@@ -3,6 +3,7 @@
 
 pub mod guard;
 pub mod note;
+mod polls;
 pub mod read;
 mod receiving;
 pub mod recovery;
@@ -10,6 +11,5 @@ pub mod samples;
 mod sending;
 pub mod transfer;
 pub mod wait;
-mod waiting;
 mod wires;
 pub mod write;

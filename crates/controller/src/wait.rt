@@ -10,7 +10,7 @@ ghost use Rattle.controller.specs.Jobs.{lowered};
 ghost use Rattle.controller.specs.Work.{polled, Works};
 
 use super::note::{Note, spend};
-use super::waiting::poll;
+use super::polls::poll;
 use board::board::Board;
 use jobfile::wait::Wait;
 use part::Part;

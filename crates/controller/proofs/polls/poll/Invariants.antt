@@ -1,7 +1,7 @@
 use Rattle.std.proofs.Common.{◌≡◌, ◌-◌}
 use Rattle.controller.specs.Master.{run}
 use Rattle.controller.specs.Jobs.{waiting, lowered}
-use Rattle.controller.proofs.waiting.poll.Given as goal
+use Rattle.controller.proofs.polls.poll.Given as goal
 
 abbrev pub invariant-loop-n : goal.invariant-loop-n
 invariant-loop-n g l =

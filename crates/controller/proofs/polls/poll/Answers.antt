@@ -2,7 +2,7 @@ use Rattle.std.proofs.Common.{[], sym, ap, ◌∙◌}
 use Rattle.controller.specs.Master.{run}
 use Rattle.controller.specs.Jobs.{writing, lowered}
 use Rattle.controller.proofs.Sends.{wait_more, wait_ready, wait_over}
-use Rattle.controller.proofs.waiting.poll.Goals as goal
+use Rattle.controller.proofs.polls.poll.Goals as goal
 
 pub returns-then-is_ok : goal.returns-then-is_ok
 returns-then-is_ok g c =
