@@ -9,7 +9,7 @@ use Rattle.board.specs.declared.bus.Next.{Next}
 use Rattle.board.specs.declared.bus.Next.TheVariants.{ThenFirst, ThenLater, ThenGiven}
 use Rattle.board.specs.declared.bus.Phase.{Phase}
 use Rattle.board.specs.declared.bus.Phase.TheVariants.{Closed, Deaf, Taking, AckDue, AckPulled, AckRisen, Giving, Released, Wanted}
-use Rattle.board.specs.Engine.{pulls, go_on, shift, held, level, move}
+use Rattle.board.specs.Engine.{pulls, go_on, shift, held, level, with_levels}
 use Rattle.board.specs.Clocks.{clock}
 
 -- how many rises may yet read LOW from a phase with SCL LOW
@@ -88,7 +88,7 @@ module _ {S : Type 0} (ops : Ops S) where
   shift_near false b a rises rest h = omega arith
 
   -- a fall brings no rise that reads LOW
-  at_fall : (ph : Phase) (s : S) (sda : Bool) (l : Levels) → after_fall (move ops (at true sda ph s) false true l).bus.phase ≤ after_rise ph
+  at_fall : (ph : Phase) (s : S) (sda : Bool) (l : Levels) → after_fall (with_levels ops (at true sda ph s) false true l).bus.phase ≤ after_rise ph
   at_fall Closed s sda l = omega arith
   at_fall Deaf s sda l = omega arith
   at_fall (Taking kind bits byte) s sda l = omega arith
@@ -106,7 +106,7 @@ module _ {S : Type 0} (ops : Ops S) where
   held_near false true b l = omega arith
   held_near false false b l = omega arith
 
-  no_rise_at : (before scl sda : Bool) (ph : Phase) (s : S) (l : Levels) → (before ≡ false → scl ≡ false) → bound (move ops (at before sda ph s) scl true l) ≤ bound_at before ph
+  no_rise_at : (before scl sda : Bool) (ph : Phase) (s : S) (l : Levels) → (before ≡ false → scl ≡ false) → bound (with_levels ops (at before sda ph s) scl true l) ≤ bound_at before ph
   no_rise_at true true sda ph s l h = held_near sda (not (pulls ph)) (level ops (at true sda ph s) l) l
   no_rise_at true false sda ph s l h = at_fall ph s sda l
   no_rise_at false true sda ph s l h = absurd (clash (sym (h refl)))
@@ -116,7 +116,7 @@ module _ {S : Type 0} (ops : Ops S) where
   rise_near true rises h = let less : rises < 8 = ltb-true rises 8 h in omega arith
   rise_near false rises h = let more : 8 ≤ rises = ltb-false rises 8 h in omega arith
 
-  at_rise : (ph : Phase) (s : S) (sda : Bool) (l : Levels) → not (pulls ph) ≡ false → after_rise (move ops (at false sda ph s) true true l).bus.phase < after_fall ph
+  at_rise : (ph : Phase) (s : S) (sda : Bool) (l : Levels) → not (pulls ph) ≡ false → after_rise (with_levels ops (at false sda ph s) true true l).bus.phase < after_fall ph
   at_rise Closed s sda l h = absurd (clash (sym h))
   at_rise Deaf s sda l h = absurd (clash (sym h))
   at_rise (Taking kind bits byte) s sda l h = absurd (clash (sym h))
@@ -127,20 +127,20 @@ module _ {S : Type 0} (ops : Ops S) where
   at_rise (Released a) s sda l h = absurd (clash (sym h))
   at_rise (Wanted a) s sda l h = absurd (clash (sym h))
 
-  rise_low_at : (before : Bool) (ph : Phase) (s : S) (sda : Bool) (l : Levels) → before ≡ false → (move ops (at before sda ph s) true true l).bus.sda ≡ false
-      → bound (move ops (at before sda ph s) true true l) < bound_at before ph
+  rise_low_at : (before : Bool) (ph : Phase) (s : S) (sda : Bool) (l : Levels) → before ≡ false → (with_levels ops (at before sda ph s) true true l).bus.sda ≡ false
+      → bound (with_levels ops (at before sda ph s) true true l) < bound_at before ph
   rise_low_at true ph s sda l e h = absurd (clash (sym e))
   rise_low_at false ph s sda l e h = at_rise ph s sda l h
 
   -- A sample that is no rise brings no further rise that reads LOW.
-  pub no_rise : (b : Board S) (scl : Bool) (l : Levels) → (b.bus.scl ≡ false → scl ≡ false) → bound (move ops b scl true l) ≤ bound b
+  pub no_rise : (b : Board S) (scl : Bool) (l : Levels) → (b.bus.scl ≡ false → scl ≡ false) → bound (with_levels ops b scl true l) ≤ bound b
   no_rise b scl l h = no_rise_at b.bus.scl scl b.bus.sda b.bus.phase b.part l h
 
   -- A rise that reads LOW leaves one fewer.
-  pub rise_low : (b : Board S) (l : Levels) → b.bus.scl ≡ false → (move ops b true true l).bus.sda ≡ false → bound (move ops b true true l) < bound b
+  pub rise_low : (b : Board S) (l : Levels) → b.bus.scl ≡ false → (with_levels ops b true true l).bus.sda ≡ false → bound (with_levels ops b true true l) < bound b
   rise_low b l e h = rise_low_at b.bus.scl b.bus.phase b.part b.bus.sda l e h
 
   -- and so does a clock
   pub clock_low : (b : Board S) (l : Levels) → (clock ops l b).bus.sda ≡ false → bound (clock ops l b) < bound b
   clock_low b l h =
-      omega (arith, no_rise b false l (λ e. refl), rise_low (move ops b false true l) l refl h)
+      omega (arith, no_rise b false l (λ e. refl), rise_low (with_levels ops b false true l) l refl h)

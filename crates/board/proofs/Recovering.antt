@@ -12,7 +12,7 @@ use Rattle.board.specs.declared.call.Call.TheVariants.{Sample, Finish, Cut}
 use Rattle.board.specs.declared.bus.Kind.TheVariants.{Address}
 use Rattle.board.specs.declared.bus.Phase.{Phase}
 use Rattle.board.specs.declared.bus.Phase.TheVariants.{Closed, Taking}
-use Rattle.board.specs.Engine.{no_bits, addressed, bit_taken, rise_at, fall_at, lower, act, level, move, moved, sampled, finish_by, numbered}
+use Rattle.board.specs.Engine.{no_bits, addressed, bit_taken, rise_at, fall_at, lower, act, level, with_levels, with_sample, sampled, finish_by, numbered}
 use Rattle.board.specs.Samples.{bit_value, odd, levels}
 use Rattle.board.specs.Wires.{Edge, steady, started, stopped, rose, fell, edge, value, Transfer, clean}
 use Rattle.board.specs.Runs.{History, told, step, state, history, edge_of, edge_at}
@@ -43,12 +43,12 @@ module _ {S : Type 0} (ops : Ops S) where
   abbrev Nearer : Edge → Board S → Board S → Type 0
   Nearer e b c = (e ≡ rose true) ⊎ (rises_in e + bound c ≤ bound b)
 
-  by_wire : (w : Bool) (b : Board S) (l : Levels) → b.bus.scl ≡ false → (move ops b true true l).bus.sda ≡ w → Nearer (rose w) b (move ops b true true l)
+  by_wire : (w : Bool) (b : Board S) (l : Levels) → b.bus.scl ≡ false → (with_levels ops b true true l).bus.sda ≡ w → Nearer (rose w) b (with_levels ops b true true l)
   by_wire true b l e h = inl refl
   by_wire false b l e h = let less = rise_low ops b l e h in inr (omega (arith, less))
 
   -- SCL before and now, by themselves
-  by_scl : (p q d w : Bool) (b : Board S) (l : Levels) → b.bus.scl ≡ p → (move ops b q true l).bus.sda ≡ w → Nearer (edge p q d w) b (move ops b q true l)
+  by_scl : (p q d w : Bool) (b : Board S) (l : Levels) → b.bus.scl ≡ p → (with_levels ops b q true l).bus.sda ≡ w → Nearer (edge p q d w) b (with_levels ops b q true l)
   by_scl true true d w b l e h = inr (omega (arith, no_rise ops b true l (λ z. absurd (clash (sym z ∙ e))), none d w))
     where
       none : (d w : Bool) → rises_in (edge true true d w) ≡ 0
@@ -60,9 +60,9 @@ module _ {S : Type 0} (ops : Ops S) where
   by_scl false true d w b l e h = by_wire w b l e h
   by_scl false false d w b l e h = inr (omega (arith, no_rise ops b false l (λ z. refl)))
 
-  sample_near : (t : Bool) (b : Board S) (x : ℕ) → ltb x 32 ≡ t → (ltb x 32 ≡ true → odd (x / 2) ≡ true) → let c = cond t (moved ops b x) b in Nearer (edge_of ops b (Sample x) c) b c
+  sample_near : (t : Bool) (b : Board S) (x : ℕ) → ltb x 32 ≡ t → (ltb x 32 ≡ true → odd (x / 2) ≡ true) → let c = cond t (with_sample ops b x) b in Nearer (edge_of ops b (Sample x) c) b c
   sample_near true b x e h =
-      let z : moved ops b x ≡ move ops b (odd x) true (levels x) = ap (λ s. move ops b (odd x) s (levels x)) (h e) in
+      let z : with_sample ops b x ≡ with_levels ops b (odd x) true (levels x) = ap (λ s. with_levels ops b (odd x) s (levels x)) (h e) in
       subst (λ c. Nearer (edge b.bus.scl (odd x) b.bus.sda c.bus.sda) b c) (sym z) (by_scl b.bus.scl (odd x) b.bus.sda _ b (levels x) refl refl)
   sample_near false b x e h = inr (rw (edge_same b.bus.scl b.bus.sda) (omega arith))
 
@@ -111,7 +111,7 @@ module _ {S : Type 0} (ops : Ops S) where
       ap (λ z. Taking Address z (value v % 128 * 2 + bit_value w)) x ∙ ap (Taking Address (suc (length v))) y)
   act_coming false false d w b l v e s t h = e
 
-  sample_coming : (t : Bool) (b : Board S) (x : ℕ) (v : List Bool) → let c = cond t (moved ops b x) b in b.bus.phase ≡ coming v
+  sample_coming : (t : Bool) (b : Board S) (x : ℕ) (v : List Bool) → let c = cond t (with_sample ops b x) b in b.bus.phase ≡ coming v
       → (edge_of ops b (Sample x) c ≡ started → ⊥) → (edge_of ops b (Sample x) c ≡ stopped → ⊥) → length (more_bits (edge_of ops b (Sample x) c) v) ≤ 7
       → c.bus.phase ≡ coming (more_bits (edge_of ops b (Sample x) c) v)
   sample_coming true b x v e s t h = act_coming b.bus.scl (odd x) b.bus.sda _ (level ops b (levels x)) (levels x) v e s t h
@@ -167,21 +167,21 @@ module _ {S : Type 0} (ops : Ops S) where
       same_bit z = ap bit_in z
   act_eighth false false d w b l v bit e h r = absurd (let y : ◌≡◌ {A = ℕ} 0 1 = ap rises_in r in omega arith)
 
-  sample_eighth : (t : Bool) (b : Board S) (x : ℕ) (v : List Bool) (bit : Bool) → let c = cond t (moved ops b x) b in b.bus.phase ≡ coming v → length v ≡ 7
+  sample_eighth : (t : Bool) (b : Board S) (x : ℕ) (v : List Bool) (bit : Bool) → let c = cond t (with_sample ops b x) b in b.bus.phase ≡ coming v → length v ≡ 7
       → edge_of ops b (Sample x) c ≡ rose bit → c.part ≡ ops.address (ops.level b.part (levels x)) (value (bit ∷ v))
   sample_eighth true b x v bit e h r = act_eighth b.bus.scl (odd x) b.bus.sda _ (level ops b (levels x)) (levels x) v bit e h r
   sample_eighth false b x v bit e h r = absurd (let y : ◌≡◌ {A = ℕ} 0 1 = ap rises_in (sym (edge_same b.bus.scl b.bus.sda) ∙ r) in omega arith)
 
   -- SCL and SDA HIGH, and then SDA LOW with SCL HIGH
   pulled_down : (p d : Bool) (ph : Phase) (s : S) (l : Levels) → p ≡ true → d ≡ true
-      → let c = move ops (record { bus = record { scl = p; sda = d; phase = ph }; part = s }) true false l in
+      → let c = with_levels ops (record { bus = record { scl = p; sda = d; phase = ph }; part = s }) true false l in
       (c.bus.phase ≡ no_bits Address) × (c.part ≡ ops.start (ops.level s l))
   pulled_down true true ph s l e f = (refl, refl)
   pulled_down true false ph s l e f = absurd (clash f)
   pulled_down false d ph s l e f = absurd (clash e)
 
-  down : (b : Board S) (x : ℕ) → ltb x 32 ≡ true → odd x ≡ true → odd (x / 2) ≡ false → step ops b (Sample x) ≡ move ops b true false (levels x)
-  down b x t e f = cond-true _ _ _ t ∙ ap (λ c. move ops b c (odd (x / 2)) (levels x)) e ∙ ap (λ d. move ops b true d (levels x)) f
+  down : (b : Board S) (x : ℕ) → ltb x 32 ≡ true → odd x ≡ true → odd (x / 2) ≡ false → step ops b (Sample x) ≡ with_levels ops b true false (levels x)
+  down b x t e f = cond-true _ _ _ t ∙ ap (λ c. with_levels ops b c (odd (x / 2)) (levels x)) e ∙ ap (λ d. with_levels ops b true d (levels x)) f
 
 module _ {S : Type 0} (ops : Ops S) (keeps : Keeps ops) where
   awaits_at : (c : Board S) (s : S) → c.bus.phase ≡ no_bits Address → c.part ≡ ops.start s → Awaits ops c

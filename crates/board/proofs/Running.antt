@@ -12,7 +12,7 @@ use Rattle.board.specs.declared.bus.Kind.{Kind}
 use Rattle.board.specs.declared.bus.Kind.TheVariants.{Address, First, Later}
 use Rattle.board.specs.declared.bus.Phase.{Phase}
 use Rattle.board.specs.declared.bus.Phase.TheVariants.{Closed, Deaf, Taking, AckDue, AckPulled, AckRisen, Giving, Released, Wanted}
-use Rattle.board.specs.Engine.{pulls as pulls_now, addressed, aimed, taken, whole, bit_taken, rise_at, lower, act, level, moved, finish_by, numbered}
+use Rattle.board.specs.Engine.{pulls as pulls_now, addressed, aimed, taken, whole, bit_taken, rise_at, lower, act, level, with_sample, finish_by, numbered}
 use Rattle.board.specs.Samples.{bit_value, odd, levels}
 use Rattle.board.specs.Wires.{edge, steady, Transfer, transfer, next}
 use Rattle.board.specs.Runs.{History, pulls, pulls_by, told, step, edge_of, moves_of, onward, state, history}
@@ -108,15 +108,15 @@ module _ {S : Type 0} (ops : Ops S) where
   low_after w false true h e = h
   low_after w sda false h e = absurd (clash e)
 
-  accepted : (b : Board S) (x : ℕ) (h : History) → ltb x 32 ≡ true → Good b h → Advances b (Sample x) (moved ops b x) h
+  accepted : (b : Board S) (x : ℕ) (h : History) → ltb x 32 ≡ true → Good b h → Advances b (Sample x) (with_sample ops b x) h
   accepted b x h e g =
       let l = levels x in
       let up = level ops b l in
-      let w = (moved ops b x).bus.sda in
+      let w = (with_sample ops b x).bus.sda in
       let went = acts b.bus.scl (odd x) b.bus.sda w up l h.answer h.byte h.ongoing g.tied in
       let seen = wired b.bus.scl (odd x) b.bus.sda w (odd (x / 2)) up l h.answer h.byte h.ongoing g.tied g.low refl in
-      let moves = moves_of ops b (Sample x) (moved ops b x) h.ongoing in
-      let pull : pulls (odd x) (onward ops b (Sample x) (moved ops b x) h) ≡ pulls_now (moved ops b x).bus.phase = rw e (pull_of _ _ _ _ _ went.tied) in
+      let moves = moves_of ops b (Sample x) (with_sample ops b x) h.ongoing in
+      let pull : pulls (odd x) (onward ops b (Sample x) (with_sample ops b x) h) ≡ pulls_now (with_sample ops b x).bus.phase = rw e (pull_of _ _ _ _ _ went.tied) in
       record {
         good = record { tied = rw e went.tied; low = low_after w (odd (x / 2)) _ seen };
         part = rw e went.part;
@@ -136,7 +136,7 @@ module _ {S : Type 0} (ops : Ops S) where
     refused = λ r. refl;
   }
 
-  sample_by : (t : Bool) (b : Board S) (x : ℕ) (h : History) → ltb x 32 ≡ t → Good b h → Advances b (Sample x) (cond t (moved ops b x) b) h
+  sample_by : (t : Bool) (b : Board S) (x : ℕ) (h : History) → ltb x 32 ≡ t → Good b h → Advances b (Sample x) (cond t (with_sample ops b x) b) h
   sample_by true b x h e g = accepted b x h e g
   sample_by false b x h e g =
       let s = edge_same b.bus.scl b.bus.sda in

@@ -3,11 +3,11 @@ use Rattle.std.specs.Prelude.{◌≡◌, ℕ, zero, suc, ◌<◌, ◌≤◌, tru
 use Rattle.part.specs.declared.levels.Levels.{Levels}
 use Rattle.part.specs.Ops.{Ops}
 use Rattle.board.specs.declared.board.Board.{Board}
-use Rattle.board.specs.Engine.{move}
+use Rattle.board.specs.Engine.{with_levels}
 
 module _ {S : Type 0} (ops : Ops S) where
   abbrev pub clock : Levels → Board S → Board S
-  clock l b = move ops (move ops b false true l) true true l
+  clock l b = with_levels ops (with_levels ops b false true l) true true l
 
   abbrev pub clocks : Levels → ℕ → Board S → Board S
   clocks l zero b = b

@@ -166,18 +166,18 @@ module _ {S : Type 0} where
     settle b before sda-before scl sda l = with_wires (act before scl sda-before (wire b sda) b l) scl (wire b sda)
 
     -- In one sample the levels reach the part, a fall changes pulls, the wire's SDA is fixed, and then comes START, STOP or a rise.
-    abbrev pub move : Board S → Bool → Bool → Levels → Board S
-    move b scl sda l = settle (lower b.bus.scl scl (level b l)) b.bus.scl b.bus.sda scl sda l
+    abbrev pub with_levels : Board S → Bool → Bool → Levels → Board S
+    with_levels b scl sda l = settle (lower b.bus.scl scl (level b l)) b.bus.scl b.bus.sda scl sda l
 
-    abbrev pub moved : Board S → ℕ → Board S
-    moved b x = move b (odd x) (odd (x / 2)) (levels x)
+    abbrev pub with_sample : Board S → ℕ → Board S
+    with_sample b x = with_levels b (odd x) (odd (x / 2)) (levels x)
 
     -- A sample with bit 5, 6 or 7 set is refused; any other answers SDA on the wire.
     abbrev pub sampled : Board S → ℕ → Board S
-    sampled b x = cond (nat_lt x 32) (moved b x) b
+    sampled b x = cond (nat_lt x 32) (with_sample b x) b
 
     abbrev pub sample_told : Board S → ℕ → Told Bool
-    sample_told b x = cond (nat_lt x 32) (ok (moved b x).bus.sda) (refused 1 0)
+    sample_told b x = cond (nat_lt x 32) (ok (with_sample b x).bus.sda) (refused 1 0)
 
     -- A finish of part k, with whether the board has it and whether a write is under way in it.
     abbrev pub finish_by : Bool → Bool → Board S → ℕ → Board S

@@ -5,7 +5,7 @@ ghost use Rattle.board.specs.Cause.{Caused};
 ghost use Rattle.board.specs.Lock.{Locks};
 ghost use Rattle.board.specs.Obeys.{Obeys};
 ghost use Rattle.board.specs.Recovery.{Recoverable};
-ghost use Rattle.board.specs.Engine.{idle, whole, rise, fetch, go_on, fall, start, stop, move};
+ghost use Rattle.board.specs.Engine.{idle, whole, rise, fetch, go_on, fall, start, stop, with_levels};
 ghost use Rattle.board.specs.Engine.{sampled, sample_told, finished, finish_told, cut, numbered_told, cell_told, tap_told};
 
 use super::bus::{Bus, Kind, Next, Phase};
@@ -50,7 +50,7 @@ impl<P: Part> Board<P> {
 
     // Gives the board one sample, which it cannot refuse, and answers SDA on the wire.
     pub fn put(&mut self, scl: bool, sda: bool, levels: &Levels) -> bool
-        ensures after { self.new ≡ move P.Part.ops self.old scl sda levels.now }
+        ensures after { self.new ≡ with_levels P.Part.ops self.old scl sda levels.now }
         ensures answer { result ≡ self.new.bus.sda }
     {
         let levels = *levels;

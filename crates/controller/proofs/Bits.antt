@@ -4,7 +4,7 @@ use Rattle.std.proofs.lemmas.Bool.{eqb-true, eqb-false, leb-true, leb-false}
 use Rattle.part.specs.Keeps.{Settled}
 use Rattle.part.specs.Ops.{Ops}
 use Rattle.part.specs.declared.levels.Levels.{Levels}
-use Rattle.board.specs.Engine.{whole, with_wires, move}
+use Rattle.board.specs.Engine.{whole, with_wires, with_levels}
 use Rattle.board.specs.Samples.{bit_value, odd}
 use Rattle.board.specs.declared.board.Board.{Board}
 use Rattle.board.specs.declared.bus.Kind.{Kind}
@@ -69,18 +69,18 @@ module _ {S : Type 0} (ops : Ops S) (l : Levels) where
   answered true n s = gone n s
   answered false n s = deaf s
 
-  pub put_run : (scl sda : Bool) (b c : Board S) → move ops b scl sda l ≡ c → run ops (put l scl sda) b ≡ (c, c.bus.sda)
+  pub put_run : (scl sda : Bool) (b c : Board S) → with_levels ops b scl sda l ≡ c → run ops (put l scl sda) b ≡ (c, c.bus.sda)
   put_run scl sda b c e = put_sample ops l scl sda b c c.bus.sda (sym e) refl
 
   -- three samples, the answer being the level of the second
-  pub three : (x y z : Bool) (p q r : Bool) (b c d e : Board S) → move ops b x p l ≡ c → move ops c y q l ≡ d → move ops d z r l ≡ e →
+  pub three : (x y z : Bool) (p q r : Bool) (b c d e : Board S) → with_levels ops b x p l ≡ c → with_levels ops c y q l ≡ d → with_levels ops d z r l ≡ e →
       run ops (put l x p then (λ _. put l y q then (λ _. put l z r))) b ≡ (e, e.bus.sda)
   three x y z p q r b c d e f g h =
       onward ops (put l x p) (λ _. put l y q then (λ _. put l z r)) b c c.bus.sda (put_run x p b c f)
       (onward ops (put l y q) (λ _. put l z r) c d d.bus.sda (put_run y q c d g) (put_run z r d e h))
 
   -- one sample and then the answer is the level of the sample before
-  pub read_three : (b c d e : Board S) → move ops b false true l ≡ c → move ops c true true l ≡ d → move ops d false true l ≡ e →
+  pub read_three : (b c d e : Board S) → with_levels ops b false true l ≡ c → with_levels ops c true true l ≡ d → with_levels ops d false true l ≡ e →
       run ops (read_bit l) b ≡ (e, d.bus.sda)
   read_three b c d e f g h =
       onward ops (put l false true) (λ _. put l true true then (λ high. put l false true then (λ _. ended high))) b c c.bus.sda (put_run false true b c f)
@@ -105,14 +105,14 @@ module _ {S : Type 0} (ops : Ops S) (l : Levels) where
   with_wires_at sda w (Later y) v x s true h = rw h refl
   with_wires_at sda w (Later y) v x s false h = rw h refl
 
-  falls_to : (w ack : Bool) (n : Next) (s : S) → Settled ops l s → move ops (risen w ack n s) false w l ≡ fallen w ack n s
+  falls_to : (w ack : Bool) (n : Next) (s : S) → Settled ops l s → with_levels ops (risen w ack n s) false w l ≡ fallen w ack n s
   falls_to true true n s h = λ i. at false false (AckPulled n) (h i)
   falls_to false true n s h = λ i. at false false (AckPulled n) (h i)
   falls_to true false n s h = λ i. at false true Deaf (h i)
   falls_to false false n s h = λ i. at false false Deaf (h i)
 
   -- the ninth bit
-  ninth_falls : (n : Next) (s : S) → Settled ops l s → move ops (at true false (AckRisen n) s) false true l ≡ gone n s
+  ninth_falls : (n : Next) (s : S) → Settled ops l s → with_levels ops (at true false (AckRisen n) s) false true l ≡ gone n s
   ninth_falls (ThenFirst y) s settled = λ i. gone (ThenFirst y) (settled i)
   ninth_falls (ThenLater y) s settled = λ i. gone (ThenLater y) (settled i)
   ninth_falls (ThenGiven y) s settled = λ i. gone (ThenGiven y) (settled i)

@@ -3,7 +3,7 @@ use Rattle.std.proofs.Common.{◌≡◌, Bool, true, false, refl}
 use Rattle.part.specs.Keeps.{Keeps, Settled}
 use Rattle.part.specs.Ops.{Ops}
 use Rattle.part.specs.declared.levels.Levels.{Levels}
-use Rattle.board.specs.Engine.{move, idle}
+use Rattle.board.specs.Engine.{with_levels, idle}
 use Rattle.board.specs.declared.board.Board.{Board}
 use Rattle.board.specs.declared.bus.Kind.{Kind}
 use Rattle.board.specs.declared.bus.Kind.TheVariants.{Address, First, Later}
@@ -20,7 +20,7 @@ AfterAddress (First y) = Unit {0}
 AfterAddress (Later y) = Unit {0}
 
 module _ {S : Type 0} (ops : Ops S) (keeps : Keeps ops) (l : Levels) where
-  starts : (b c d e f : Board S) → move ops b false true l ≡ c → move ops c true true l ≡ d → move ops d true false l ≡ e → move ops e false false l ≡ f →
+  starts : (b c d e f : Board S) → with_levels ops b false true l ≡ c → with_levels ops c true true l ≡ d → with_levels ops d true false l ≡ e → with_levels ops e false false l ≡ f →
       run ops (start l) b ≡ (f, f.bus.sda)
   unfolding start
   starts b c d e f g h j k =

@@ -5,7 +5,7 @@ use Rattle.refusals.specs.Told.{Told, ok}
 use Rattle.part.specs.Ops.{Ops}
 use Rattle.part.specs.declared.levels.Levels.{Levels}
 use Rattle.board.specs.declared.board.Board.{Board}
-use Rattle.board.specs.Engine.{idle_bus, move}
+use Rattle.board.specs.Engine.{idle_bus, with_levels}
 use Rattle.board.specs.Clocks.{clock, clocks, Frees}
 use Rattle.board.specs.Runs.{Sampled}
 use Rattle.board.proofs.Clocks.{bound, at_most_nine, clock_low}
@@ -16,7 +16,7 @@ use Rattle.controller.proofs.Runs.{put_sample, onward}
 use Rattle.controller.proofs.Sampling.{job_sampled}
 
 module _ {S : Type 0} (ops : Ops S) (l : Levels) where
-  put_run : (scl sda : Bool) (b : Board S) → run ops (put l scl sda) b ≡ (move ops b scl sda l, (move ops b scl sda l).bus.sda)
+  put_run : (scl sda : Bool) (b : Board S) → run ops (put l scl sda) b ≡ (with_levels ops b scl sda l, (with_levels ops b scl sda l).bus.sda)
   put_run scl sda b = put_sample ops l scl sda b _ _ refl refl
 
   clock_run : (b : Board S) → run ops (clock_master l) b ≡ (clock ops l b, (clock ops l b).bus.sda)
@@ -109,7 +109,7 @@ module _ {S : Type 0} (ops : Ops S) (l : Levels) where
           let high : (clocks ops l (suc j) start).bus.sda ≡ true = ap (λ i. (clocks ops l i start).bus.sda) here ∙ f.high in
           switch _ _ _ _ _ high ∙ (λ i. run ops (after_clocks (number i)) (clocks ops l (here i) start))
 
-  stop_run : (b : Board S) → (run ops (stop l) b).0 ≡ move ops (move ops (move ops b false false l) true false l) true true l
+  stop_run : (b : Board S) → (run ops (stop l) b).0 ≡ with_levels ops (with_levels ops (with_levels ops b false false l) true false l) true true l
   unfolding stop
   stop_run b =
       ap (λ r. r.0) (onward ops (put l false false) (λ _. put l true false then (λ _. put l true true)) b _ _ (put_run false false b)
@@ -118,7 +118,7 @@ module _ {S : Type 0} (ops : Ops S) (l : Levels) where
   release_run : (b : Board S) → (run ops (release l) b).0 ≡ released ops l b
   unfolding release
   release_run b =
-      ap (λ z. z.0) (onward ops (put l true false) (λ _. stop l) b _ _ (put_run true false b) refl) ∙ stop_run (move ops b true false l)
+      ap (λ z. z.0) (onward ops (put l true false) (λ _. stop l) b _ _ (put_run true false b) refl) ∙ stop_run (with_levels ops b true false l)
 
   -- a whole recovery, by its master
   pub recovered : (k : ℕ) (b c d : Board S) → Frees ops l k b → c ≡ clocks ops l k b → (run ops (release l) c).0 ≡ d → run ops (recovering l) b ≡ (d, ok (k ∷ []))

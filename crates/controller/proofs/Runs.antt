@@ -7,7 +7,7 @@ use Rattle.refusals.specs.Told.{Told, ok, refused, told, number, place}
 use Rattle.part.specs.Ops.{Ops}
 use Rattle.part.specs.declared.levels.Levels.{Levels}
 use Rattle.board.specs.declared.board.Board.{Board}
-use Rattle.board.specs.Engine.{sampled, moved, move, sample_told}
+use Rattle.board.specs.Engine.{sampled, with_sample, with_levels, sample_told}
 use Rattle.board.specs.Samples.{bit_value, odd}
 use Rattle.controller.specs.Master.{Master, ended, gives, ◌then◌, after_sample, reads, run}
 use Rattle.controller.specs.Bytes.{sample_of, send_bit, read_bit, send_bits, read_bits, send, receive}
@@ -58,17 +58,17 @@ its_level (Err refusal) level e = apart level (number refusal) (place refusal) (
 
 module _ {S : Type 0} (ops : Ops S) where
   -- the board after a sample of the tool, and the answer
-  pub put_sample : (l : Levels) (scl sda : Bool) (b after : Board S) (level : Bool) → after ≡ move ops b scl sda l → level ≡ after.bus.sda
+  pub put_sample : (l : Levels) (scl sda : Bool) (b after : Board S) (level : Bool) → after ≡ with_levels ops b scl sda l → level ≡ after.bus.sda
       → ◌≡◌ {A = Board S × Bool} (after_sample ops b (sample_of l scl sda), reads ops b (sample_of l scl sda)) (after, level)
   unfolding after_sample reads
   put_sample l scl sda b after level e f =
-      let same : moved ops b (sample_of l scl sda) ≡ move ops b scl sda l = λ i.
-      move ops b (scl_bit l scl sda i) (sda_bit l scl sda i) (record { wp = wp_bit l scl sda i; v2ro = v2ro_bit l scl sda i; v3ro = v3ro_bit l scl sda i }) in
+      let same : with_sample ops b (sample_of l scl sda) ≡ with_levels ops b scl sda l = λ i.
+      with_levels ops b (scl_bit l scl sda i) (sda_bit l scl sda i) (record { wp = wp_bit l scl sda i; v2ro = v2ro_bit l scl sda i; v3ro = v3ro_bit l scl sda i }) in
       let h : sampled ops b (sample_of l scl sda) ≡ after = rw (lt-ltb _ 32 (sample_small l scl sda)) (same ∙ sym e) in
       λ i. (h i, (ap (λ c. c.bus.sda) h ∙ sym f) i)
 
   -- a sample that is not refused is answered
-  pub taken_sample : (b : Board S) (x : ℕ) (r : Result Bool Refusal) → x < 32 → told (λ level. level) r ≡ sample_told ops b x → r ≡ Ok (moved ops b x).bus.sda
+  pub taken_sample : (b : Board S) (x : ℕ) (r : Result Bool Refusal) → x < 32 → told (λ level. level) r ≡ sample_told ops b x → r ≡ Ok (with_sample ops b x).bus.sda
   taken_sample b x r h f = its_level r _ (rw (lt-ltb x 32 h) at f)
 
   -- the board after it, and the answer
@@ -76,9 +76,9 @@ module _ {S : Type 0} (ops : Ops S) where
       → r ≡ Ok level → ◌≡◌ {A = Board S × Bool} (after_sample ops b x, reads ops b x) (after, level)
   unfolding after_sample reads
   answered b after x r level h e f k =
-      let s : sampled ops b x ≡ moved ops b x = rw (lt-ltb x 32 h) refl in
-      let same : Ok (moved ops b x).bus.sda ≡ Ok level = sym (taken_sample b x r h f) ∙ k in
-      let l : (moved ops b x).bus.sda ≡ level = cc in
+      let s : sampled ops b x ≡ with_sample ops b x = rw (lt-ltb x 32 h) refl in
+      let same : Ok (with_sample ops b x).bus.sda ≡ Ok level = sym (taken_sample b x r h f) ∙ k in
+      let l : (with_sample ops b x).bus.sda ≡ level = cc in
       let m : (sampled ops b x).bus.sda ≡ level = ap (λ c. c.bus.sda) s ∙ l in
       λ i. (sym e i, m i)
 

@@ -4,7 +4,7 @@ use Rattle.refusals.specs.Told.{Told, ok}
 use Rattle.part.specs.Ops.{Ops}
 use Rattle.part.specs.declared.levels.Levels.{Levels}
 use Rattle.board.specs.declared.board.Board.{Board}
-use Rattle.board.specs.Engine.{idle_bus, move}
+use Rattle.board.specs.Engine.{idle_bus, with_levels}
 use Rattle.board.specs.Clocks.{clocks, Frees}
 use Rattle.controller.specs.Master.{Master, ended, ◌then◌}
 use Rattle.controller.specs.Bytes.{put, stop, clock}
@@ -25,7 +25,7 @@ recovering l = clocking l 10 1
 module _ {S : Type 0} (ops : Ops S) where
   -- SDA LOW with SCL HIGH, and then STOP: 10, 00, 10, 11
   abbrev pub released : Levels → Board S → Board S
-  released l b = move ops (move ops (move ops (move ops b true false l) false false l) true false l) true true l
+  released l b = with_levels ops (with_levels ops (with_levels ops (with_levels ops b true false l) false false l) true false l) true true l
 
   -- a recovery of k clocks, from one board to another, on which the wires are idle
   pub record Recovers (l : Levels) (k : ℕ) (before after : Board S) : Type 0 where
