@@ -1,8 +1,8 @@
 -- What calls answer and what board they leave: one call, and a list of them, one after another.
-use Rattle.std.specs.Prelude.{◌≡◌, ℕ, ◌-◌, Bool, true, false, List, [], ◌∷◌, length, map, Some, None, Option, slice_index_or, nat_le}
+use Rattle.std.specs.Prelude.{◌≡◌, ℕ, Bool, true, false, List, [], ◌∷◌, length, map, Some, None, Option, slice_index_or, nat_le}
 use Rattle.refusals.specs.Told.{Told, ok, refused, number, place, and_then}
 use Rattle.rows.specs.declared.row.Row.{Row}
-use Rattle.rows.specs.Rows.{items_of, Grown}
+use Rattle.rows.specs.Rows.{room_of, Grown}
 use Rattle.part.specs.Ops.{Ops}
 use Rattle.board.specs.declared.answer.Answer.{Answer}
 use Rattle.board.specs.declared.answer.Answer.TheVariants.{Level, Done, Refused}
@@ -22,9 +22,9 @@ shown (Refused r) = refused (number r) (place r)
 abbrev pub call_at : List Call → ℕ → Call
 call_at calls n = slice_index_or calls n (Finish 0)
 
--- the row takes n items more
-abbrev pub takes : {A : Type 0} → Row A → ℕ → Bool
-takes row n = nat_le n (length (items_of row) - row.count)
+-- the row has room for n items more
+abbrev pub has_room : {A : Type 0} → Row A → ℕ → Bool
+has_room row n = nat_le n (room_of row)
 
 module _ {S : Type 0} (ops : Ops S) where
   -- what one call answers on the board b; a power cut is never refused
@@ -46,7 +46,7 @@ module _ {S : Type 0} (ops : Ops S) where
   abbrev pub Appended : Board S → List Call → Row Answer → Row Answer → Type 0
   Appended b calls before after = (got : List Answer) × Grown before got after × (map shown got ≡ answers_of b calls)
 
-  -- The board b and a row before and after the calls, and what is told of them, with whether the row takes all answers:
+  -- The board b and a row before and after the calls, and what is told of them, with whether the row has room for all answers:
   -- the board is that of the run of these calls, or board and row are as they were.
   abbrev pub Ran : Bool → List Call → Board S → Board S → Row Answer → Row Answer → Told (Unit {0}) → Type 0
   Ran true calls b c before after answer = (c ≡ state ops b (call_at calls) (length calls)) × Appended b calls before after × (answer ≡ ok tt)

@@ -3,7 +3,7 @@ ghost use Rattle.std.specs.Prelude.{◌≡◌, ◌+◌, ◌≤◌, length};
 ghost use Rattle.refusals.specs.Told.{told};
 ghost use Rattle.rows.specs.Rows.{items_of};
 ghost use Rattle.board.specs.Runs.{step};
-ghost use Rattle.board.specs.Answers.{shown, takes, call_told, after_all, Appended, Ran};
+ghost use Rattle.board.specs.Answers.{shown, has_room, call_told, after_all, Appended, Ran};
 
 use super::answer::Answer;
 use super::board::Board;
@@ -33,7 +33,7 @@ impl<P: Part> Board<P> {
     // refused before the first call: board and row stay as they were.
     #[tactic(auto, using(crate::proofs::Calls::after_state))]
     pub fn run(&mut self, calls: &[Call], answers: &mut Row<'_, Answer>) -> Result<(), Refusal>
-        ensures run { Ran P.Part.ops (takes answers.old (length calls.now)) calls.now self.old self.new answers.old answers.new (told (λ x. x) result) }
+        ensures run { Ran P.Part.ops (has_room answers.old (length calls.now)) calls.now self.old self.new answers.old answers.new (told (λ x. x) result) }
         ensures lender { answers.new.items.ghost_name ≡ answers.old.items.ghost_name }
     {
         if answers.room() < calls.len() {

@@ -1,13 +1,9 @@
 -- What a job that answers bytes leaves in the caller's row.
-use Rattle.std.specs.Prelude.{◌≡◌, ℕ, ◌-◌, List, length}
+use Rattle.std.specs.Prelude.{◌≡◌, ℕ, List, length}
 use Rattle.refusals.specs.Told.{Told, ok, refused}
 use Rattle.board.specs.declared.board.Board.{Board}
 use Rattle.rows.specs.declared.row.Row.{Row}
-use Rattle.rows.specs.Rows.{Grown, items_of}
-
--- how many bytes more the row can take
-abbrev pub room_of : Row ℕ → ℕ
-room_of row = length (items_of row) - row.count
+use Rattle.rows.specs.Rows.{Grown}
 
 -- the bytes answered are appended to the row, and a refusal leaves it as it was
 abbrev pub Answered : Row ℕ → Told (List ℕ) → Row ℕ → Type 0

@@ -3,8 +3,8 @@ ghost use Rattle.std.specs.Prelude.{◌≡◌, ℕ, ◌+◌, ◌≤◌, true, Li
 ghost use Rattle.refusals.specs.Told.{ok, told};
 ghost use Rattle.board.specs.Runs.{Sampled};
 ghost use Rattle.jobfile.specs.Said.{shown_read};
-ghost use Rattle.rows.specs.Rows.{items_of, Grown};
-ghost use Rattle.controller.specs.Answers.{Into, Lasts, room_of};
+ghost use Rattle.rows.specs.Rows.{items_of, room_of, Grown};
+ghost use Rattle.controller.specs.Answers.{Into, Lasts};
 ghost use Rattle.controller.specs.Master.{run};
 ghost use Rattle.controller.specs.Jobs.{receive_all};
 ghost use Rattle.controller.specs.Said.{master_of};

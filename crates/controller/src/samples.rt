@@ -1,10 +1,10 @@
 // The samples job.
 ghost use Rattle.std.specs.Prelude.{◌≡◌, ℕ, ◌+◌, ◌<◌, ◌≤◌, true, List, [], length};
 ghost use Rattle.refusals.specs.Told.{ok, told};
-ghost use Rattle.rows.specs.Rows.{items_of, row_of, first_with, Grown};
+ghost use Rattle.rows.specs.Rows.{items_of, row_of, room_of, first_with, Grown};
 ghost use Rattle.board.specs.Runs.{Sampled};
 ghost use Rattle.board.specs.Samples.{bit_value};
-ghost use Rattle.controller.specs.Answers.{Into, Lasts, room_of};
+ghost use Rattle.controller.specs.Answers.{Into, Lasts};
 ghost use Rattle.controller.specs.Master.{run, gives, ended};
 ghost use Rattle.controller.specs.Jobs.{giving, all_samples, sampling};
 

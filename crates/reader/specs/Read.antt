@@ -28,7 +28,7 @@ Exactly xs rows = ReadsAll xs rows × ((others : List Transfer) → ReadsAll xs 
 abbrev pub counted : List ℕ → Told ℕ
 counted xs = cond (readable xs) (ok (length (transfers xs))) (refused 1 0)
 
--- A recording, whether it is readable, whether the row takes all its transfers, the row before and after, and what is told:
+-- A recording, whether it is readable, whether the row has room for all its transfers, the row before and after, and what is told:
 -- its transfers are appended, or the row is as it was.
 abbrev pub Read : Bool → Bool → List ℕ → Row Transfer → Row Transfer → Told (Unit {0}) → Type 0
 Read false room xs before after answer = (after ≡ before) × (answer ≡ refused 1 0)

@@ -2,7 +2,7 @@
 ghost use Rattle.std.specs.Prelude.{Ok, Err, IfOk, true, ◌≡◌, ◌+◌, ◌≤◌, length};
 ghost use Rattle.refusals.specs.Told.{told};
 ghost use Rattle.rows.specs.Rows.{items_of, Grown};
-ghost use Rattle.board.specs.Answers.{takes};
+ghost use Rattle.board.specs.Answers.{has_room};
 ghost use Rattle.reader.specs.Read.{readable, transfers, Exactly, counted, Read};
 
 use super::reader::{Reader, reach};
@@ -92,7 +92,7 @@ impl<'a> Recording<'a> {
     #[tactic(auto, using(crate::proofs::Words::exactly))]
     pub fn read(&self, row: &mut Row<'_, Transfer>) -> Result<(), Refusal>
         ensures transfers { Exactly self.now.samples.now (transfers self.now.samples.now) }
-        ensures read { Read true (takes row.old (length (transfers self.now.samples.now))) self.now.samples.now row.old row.new (told (λ x. x) result) }
+        ensures read { Read true (has_room row.old (length (transfers self.now.samples.now))) self.now.samples.now row.old row.new (told (λ x. x) result) }
         ensures lender { row.new.items.ghost_name ≡ row.old.items.ghost_name }
     {
         if row.room() < self.count {
@@ -116,7 +116,7 @@ pub fn count(recording: &[u8]) -> Result<usize, Refusal>
 #[tactic(auto, using(crate::proofs::Words::exactly))]
 pub fn read(recording: &[u8], row: &mut Row<'_, Transfer>) -> Result<(), Refusal>
     ensures transfers { Exactly recording.now (transfers recording.now) }
-    ensures read { Read (readable recording.now) (takes row.old (length (transfers recording.now))) recording.now row.old row.new (told (λ x. x) result) }
+    ensures read { Read (readable recording.now) (has_room row.old (length (transfers recording.now))) recording.now row.old row.new (told (λ x. x) result) }
     ensures lender { row.new.items.ghost_name ≡ row.old.items.ghost_name }
 {
     Recording::new(recording)?.read(row)

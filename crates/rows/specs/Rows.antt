@@ -1,5 +1,5 @@
 -- What a row holds, and what is found in it.
-use Rattle.std.specs.Prelude.{◌≡◌, ℕ, ◌+◌, ◌≤◌, Bool, true, false, List, length, take, Option, ◌==◌, nat_lt}
+use Rattle.std.specs.Prelude.{◌≡◌, ℕ, ◌+◌, ◌-◌, ◌≤◌, Bool, true, false, List, length, take, Option, ◌==◌, nat_lt}
 use Rattle.std.specs.List.{position}
 use Rattle.refusals.specs.Told.{Told, ok, refused}
 use Rattle.rows.specs.declared.row.Row.{Row}
@@ -12,6 +12,10 @@ items_of row = row.items.now
 -- the items of the row: those below the count
 abbrev pub row_of : {A : Type 0} → Row A → List A
 row_of row = take row.count (items_of row)
+
+-- how many items more the row can take
+abbrev pub room_of : {A : Type 0} → Row A → ℕ
+room_of row = length (items_of row) - row.count
 
 -- one more item fits
 abbrev pub roomy : {A : Type 0} → Row A → Bool

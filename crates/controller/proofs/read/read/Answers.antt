@@ -1,7 +1,8 @@
 use Rattle.std.proofs.Common.{ℕ, ◌≤◌, List, [], sym, refl, ap, ◌∙◌, subst, arith}
 use Rattle.std.proofs.lemmas.Result.{err_from_is_err_and}
 use Rattle.refusals.specs.Told.{Told, ok, refused, told}
-use Rattle.controller.specs.Answers.{Into, room_of}
+use Rattle.rows.specs.Rows.{room_of}
+use Rattle.controller.specs.Answers.{Into}
 use Rattle.controller.specs.Cells.{AllBytes}
 use Rattle.controller.specs.Master.{Master, run}
 use Rattle.controller.specs.Jobs.{receive_all, reading, with_room}

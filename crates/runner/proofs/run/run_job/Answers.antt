@@ -1,7 +1,7 @@
 use Rattle.std.proofs.Common.{ℕ, ◌≤◌, List, [], Ok, length, sym, refl, ap, ◌∙◌, subst}
 use Rattle.refusals.specs.Told.{ok}
 use Rattle.jobfile.specs.Jobs.{said}
-use Rattle.controller.specs.Answers.{room_of}
+use Rattle.rows.specs.Rows.{room_of}
 use Rattle.controller.specs.Jobs.{reading}
 use Rattle.runner.specs.Sizes.{answers}
 use Rattle.runner.specs.Runs.{job_run, Within}
