@@ -3,10 +3,11 @@ use Rattle.std.proofs.Common.{◌≡◌, ℕ, zero, suc, ◌+◌, ◌-◌, ◌/�
 use borrow.Author.Tests.{clash}
 use Rattle.std.proofs.lemmas.Bool.{and_parts, cond-true, cases_eq, eqb-true, eqb-false, ne_eqb}
 use Rattle.std.proofs.lemmas.Option.{none-some}
+use Rattle.std.specs.Option.{unwrap_or}
 use Rattle.part.specs.declared.levels.Levels.{Levels}
 use Rattle.part.specs.declared.power.PowerCut.{PowerCut}
 use Rattle.part.specs.Ops.{Ops}
-use Rattle.part.specs.Keeps.{Keeps, Fixed, Lasting, Fades, Stops, Finishes, Cuts, Marked, stored}
+use Rattle.part.specs.Keeps.{Keeps, Fixed, Lasting, Fades, Stops, Finishes, Cuts, Marked}
 use Rattle.part.specs.Moves.{Move, moved, after}
 use Rattle.board.specs.declared.board.Board.{Board}
 use Rattle.board.specs.declared.call.Call.{Call}
@@ -125,9 +126,9 @@ module _ {S : Type 0} (ops : Ops S) (keeps : Keeps ops) where
           }
 
   -- a finish and a power cut store what is under way, or not, and leave none
-  store_or_not : (u o : Option ℕ) (new old : ℕ) → o ≡ u → new ≡ stored ops o old → (new ≡ old) ⊎ (o ≡ Some new)
-  store_or_not None o new old e h = inl (h ∙ ap (λ z. stored ops z old) e)
-  store_or_not (Some v) o new old e h = inr (e ∙ ap Some (sym (h ∙ ap (λ z. stored ops z old) e)))
+  store_or_not : (u o : Option ℕ) (new old : ℕ) → o ≡ u → new ≡ unwrap_or o old → (new ≡ old) ⊎ (o ≡ Some new)
+  store_or_not None o new old e h = inl (h ∙ ap (λ z. unwrap_or z old) e)
+  store_or_not (Some v) o new old e h = inr (e ∙ ap Some (sym (h ∙ ap (λ z. unwrap_or z old) e)))
 
   finish_fate : (b : Board S) (q : ℕ) (c : Board S) (h : History) (k i : ℕ) → c.part ≡ ops.finish b.part q → Fate b (Finish q) c h k i
   finish_fate b q c h k i e = elim (cases_eq k q) [ inl same ↦ mine same | inr other ↦ others other ]

@@ -4,8 +4,6 @@ use Rattle.std.proofs.Common.{◌≡◌, ℕ, ◌<◌, ◌≤◌, Bool, true, fa
 use borrow.Author.Tests.{clash}
 use Rattle.std.specs.Option.{option_or}
 use Rattle.std.proofs.lemmas.Bool.{eqb-true, ne_eqb, cond-false}
-use Rattle.part.specs.Ops.{Ops}
-use Rattle.part.specs.Keeps.{stored}
 use Rattle.eeprom.specs.declared.Eeprom.{Eeprom}
 use Rattle.eeprom.specs.Cells.{byte_at, staged_at, under_way_at, is_busy, stages, stopped, finishes}
 use Rattle.eeprom.specs.OnePart.{of_part}
@@ -42,13 +40,9 @@ staged_one true true false k n i x o w v e g h z = inl z
 staged_one true false f k n i x o w v e g h z = inl z
 staged_one false t f k n i x o w v e g h z = inl refl
 
-value_stored : {S : Type 0} (ops : Ops S) (w : Option ℕ) (b : ℕ) → unwrap_or w b ≡ stored ops w b
-value_stored ops None b = refl
-value_stored ops (Some v) b = refl
-
-pub cut_stores : {S : Type 0} (ops : Ops S) (q : Bool) (b v : ℕ) (w : Option ℕ) → b ≡ unwrap_or w v → cond q b 0 ≡ stored ops (cond q w None) (cond q v 0)
-cut_stores ops true b v w h = h ∙ value_stored ops w v
-cut_stores ops false b v w h = refl
+pub cut_stores : (q : Bool) (b v : ℕ) (w : Option ℕ) → b ≡ unwrap_or w v → cond q b 0 ≡ unwrap_or (cond q w None) (cond q v 0)
+cut_stores true b v w h = h
+cut_stores false b v w h = refl
 
 -- of two different numbers one at most is 0
 pub apart : (k q : ℕ) → (k ≡ q → ⊥) → eqb k 0 ≡ true → eqb q 0 ≡ true → ⊥
@@ -100,9 +94,9 @@ module _ {N : ℕ} (e : Eeprom N) where
   stopped_under_way false wp k i = inl refl
 
   -- a finish of the part that q means
-  pub finish_stores : {S : Type 0} (ops : Ops S) (q : Bool) (i : ℕ) → cond q (byte_at (cond q (finishes e) e) i) 0 ≡ stored ops (cond q (under_way_at e i) None) (cond q (byte_at e i) 0)
-  finish_stores ops true i = finishes_byte e i ∙ value_stored ops (under_way_at e i) (byte_at e i)
-  finish_stores ops false i = refl
+  pub finish_stores : (q : Bool) (i : ℕ) → cond q (byte_at (cond q (finishes e) e) i) 0 ≡ unwrap_or (cond q (under_way_at e i) None) (cond q (byte_at e i) 0)
+  finish_stores true i = finishes_byte e i
+  finish_stores false i = refl
 
   pub finish_ends : (q : Bool) (i : ℕ) → cond q (under_way_at (cond q (finishes e) e) i) None ≡ None
   finish_ends true i = finishes_under_way e i

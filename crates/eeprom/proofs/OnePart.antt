@@ -128,7 +128,7 @@ module _ {S : Type 0} {N : ℕ} (c : OnePart S N) where
       let byte = λ (i : ℕ). ap (λ f. byte_at f i) e ∙ cuts_byte (c.eeprom s) p.mask i in
       record {
         fixed = fixed s t;
-        marked = λ k i m. cut_stores (part_of c) (eqb k 0) _ _ _ (byte i ∙ cond-true _ _ _ (eq-eqb (p.mask / 2 ^ (i % 16) % 2) 1 m));
+        marked = λ k i m. cut_stores (eqb k 0) _ _ _ (byte i ∙ cond-true _ _ _ (eq-eqb (p.mask / 2 ^ (i % 16) % 2) 1 m));
         unmarked = λ k i m. ap (λ v. of_part k v 0) (byte i ∙ cond-false _ _ _ (ne_eqb (p.mask / 2 ^ (i % 16) % 2) 1 m));
         ends = λ k i. part_none (eqb k 0) _ (ap (λ f. under_way_at f i) e ∙ cuts_under_way (c.eeprom s) p.mask i);
         unstaged = unstaged t (λ i. ap (λ f. staged_at f i) e ∙ cuts_staged (c.eeprom s) p.mask i);
@@ -202,7 +202,7 @@ module _ {S : Type 0} {N : ℕ} (c : OnePart S N) (m : OwnMoves c) where
       let back = m.put_back s in
       record {
         fixed = fixed c s _;
-        stores = λ i. ap (λ g. of_part q (byte_at g i) 0) put ∙ finish_stores e (part_of c) (eqb q 0) i;
+        stores = λ i. ap (λ g. of_part q (byte_at g i) 0) put ∙ finish_stores e (eqb q 0) i;
         ends = λ i. ap (λ g. of_part q (under_way_at g i) None) put ∙ finish_ends e (eqb q 0) i;
         fades = λ k i. inl (ap (λ g. of_part k (staged_at g i) None) put ∙ ap (λ w. of_part k w None) (finish_staged e (eqb q 0) i));
         forgets = stays c s _ (m.put_heard s f);

@@ -3,10 +3,11 @@
 use Rattle.std.specs.Prelude.{◌≡◌, ℕ, ◌/◌, ◌<◌, Bool, true, false, cond, ◌||◌, ◌⊎◌, Some, None, Option, ◌≢◌, refl}
 use Rattle.std.proofs.Common.{sym, ◌∙◌, inl, inr, arith}
 use Rattle.std.proofs.lemmas.Bool.{ltb-true, ltb-false, or_cases, or_left, or_right, or_from, cond-true, cond-false}
+use Rattle.std.specs.Option.{unwrap_or}
 use Rattle.part.specs.declared.levels.Levels.{Levels}
 use Rattle.part.specs.declared.power.PowerCut.{PowerCut}
 use Rattle.part.specs.Ops.{Ops}
-use Rattle.part.specs.Keeps.{Keeps, Shape, Fixed, Fades, UnstagedAt, Still, Starts, Addresses, Aims, Takes, Stops, Finishes, Cuts, Settles, stored, Marked}
+use Rattle.part.specs.Keeps.{Keeps, Shape, Fixed, Fades, UnstagedAt, Still, Starts, Addresses, Aims, Takes, Stops, Finishes, Cuts, Settles, Marked}
 use Rattle.pair.specs.declared.Pair.{Pair}
 use Rattle.pair.specs.Both.{both, join, one, in_first, rest, for_first}
 use Rattle.pair.specs.Numbers.{Seen, seen, by_number, at_number, unshift, reshift, owned}
@@ -184,7 +185,7 @@ module _ {A B : Type 0} (a : Ops A) (b : Ops B) (ka : Keeps a) (kb : Keeps b) wh
       let h = in_first a b s m in
       record {
         fixed = one_fixed a b h _ _ s p.fixed q.fixed;
-        stores = λ i. finish_at h (λ u v. v.cell i ≡ stored (both a b) (u.under_way i) (u.cell i)) s m refl (p.stores i) (q.stores i);
+        stores = λ i. finish_at h (λ u v. v.cell i ≡ unwrap_or (u.under_way i) (u.cell i)) s m refl (p.stores i) (q.stores i);
         ends = λ i. finish_at h (λ u v. v.under_way i ≡ None) s m refl (p.ends i) (q.ends i);
         fades = one_fades a b h _ _ s p.fixed p.fades q.fades;
         forgets = one_forgets a b h _ _ s p.forgets q.forgets;
@@ -202,7 +203,7 @@ module _ {A B : Type 0} (a : Ops A) (b : Ops B) (ka : Keeps a) (kb : Keeps b) wh
       let c = p.fixed.count in
       record {
         fixed = fixed_both a b s t p.fixed q.fixed;
-        marked = λ k i. by_number a b (λ u v. Marked (both a b) power.mask (u.offset i) → v.cell i ≡ stored (both a b) (u.under_way i) (u.cell i)) s t k c (λ _. p.marked k i) (λ _. q.marked _ i);
+        marked = λ k i. by_number a b (λ u v. Marked (both a b) power.mask (u.offset i) → v.cell i ≡ unwrap_or (u.under_way i) (u.cell i)) s t k c (λ _. p.marked k i) (λ _. q.marked _ i);
         unmarked = λ k i. by_number a b (λ u v. (Marked (both a b) power.mask (u.offset i) → ⊥) → v.cell i ≡ u.cell i) s t k c (λ _. p.unmarked k i) (λ _. q.unmarked _ i);
         ends = λ k i. at_number a b (λ u. u.under_way i ≡ None) t k (λ _. p.ends k i) (λ _. q.ends _ i);
         unstaged = unstaged_both a b t p.unstaged q.unstaged;

@@ -1,5 +1,6 @@
 -- What a part must keep to, in every state: what each move may do, and what it must. Assumes nothing of any one chip.
 use Rattle.std.specs.Prelude.{◌≡◌, ℕ, ◌/◌, ◌%◌, ◌^◌, ◌<◌, ◌≤◌, Bool, true, false, ◌⊎◌, Some, None, Option, ◌≢◌}
+use Rattle.std.specs.Option.{unwrap_or}
 use Rattle.part.specs.declared.levels.Levels.{Levels}
 use Rattle.part.specs.declared.power.PowerCut.{PowerCut}
 use Rattle.part.specs.Ops.{Ops}
@@ -108,15 +109,10 @@ module _ {S : Type 0} (ops : Ops S) where
     pub unstaged : Unstaged t
     pub forgets : Forgets s t
 
-  -- the byte of a cell once its write under way, if any, is stored
-  abbrev pub stored : Option ℕ → ℕ → ℕ
-  stored None b = b
-  stored (Some v) b = v
-
-  -- a finish of part q stores all that is under way there, and leaves none; every other part is as it was
+  -- a finish of part q stores all that is under way there, and leaves none; a cell with nothing under way keeps its byte; every other part is as it was
   pub record Finishes (s : S) (q : ℕ) (t : S) : Type 0 where
     pub fixed : Fixed s t
-    pub stores : (i : ℕ) → ops.cell t q i ≡ stored (ops.under_way s q i) (ops.cell s q i)
+    pub stores : (i : ℕ) → ops.cell t q i ≡ unwrap_or (ops.under_way s q i) (ops.cell s q i)
     pub ends : (i : ℕ) → ops.under_way t q i ≡ None
     pub fades : Fades s t
     pub forgets : Forgets s t
@@ -132,7 +128,7 @@ module _ {S : Type 0} (ops : Ops S) where
   -- a power cut stores exactly the writes under way whose offset is marked in its mask; nothing is under way, staged or heard afterwards
   pub record Cuts (s : S) (p : PowerCut) (t : S) : Type 0 where
     pub fixed : Fixed s t
-    pub marked : (k i : ℕ) → Marked p.mask (ops.offset s k i) → ops.cell t k i ≡ stored (ops.under_way s k i) (ops.cell s k i)
+    pub marked : (k i : ℕ) → Marked p.mask (ops.offset s k i) → ops.cell t k i ≡ unwrap_or (ops.under_way s k i) (ops.cell s k i)
     pub unmarked : (k i : ℕ) → (Marked p.mask (ops.offset s k i) → ⊥) → ops.cell t k i ≡ ops.cell s k i
     pub ends : (k i : ℕ) → ops.under_way t k i ≡ None
     pub unstaged : Unstaged t
