@@ -7,7 +7,7 @@ use Rattle.std.specs.Option.{unwrap_or}
 use Rattle.part.specs.declared.levels.Levels.{Levels}
 use Rattle.part.specs.declared.power.PowerCut.{PowerCut}
 use Rattle.part.specs.Ops.{Ops}
-use Rattle.part.specs.Keeps.{Keeps, Fixed, Lasting, Fades, Stops, Finishes, Cuts, Marked}
+use Rattle.part.specs.Keeps.{Keeps, Fixed, Stored, Fades, Stops, Finishes, Cuts, Marked}
 use Rattle.part.specs.Moves.{Move, moved, after}
 use Rattle.board.specs.declared.board.Board.{Board}
 use Rattle.board.specs.declared.call.Call.{Call}
@@ -48,30 +48,30 @@ is_stopped (rose w) = inr (λ z. let y : ◌≡◌ {A = ℕ} 0 1 = ap edge_tag z
 is_stopped fell = inr (λ z. let y : ◌≡◌ {A = ℕ} 0 1 = ap edge_tag z in omega arith)
 
 module _ {S : Type 0} (ops : Ops S) (keeps : Keeps ops) where
-  then_lasting : (s t u : S) → Lasting ops s t → Lasting ops t u → Lasting ops s u
-  then_lasting s t u p q = record { cell = λ k i. q.cell k i ∙ p.cell k i; under_way = λ k i. q.under_way k i ∙ p.under_way k i }
+  then_stored : (s t u : S) → Stored ops s t → Stored ops t u → Stored ops s u
+  then_stored s t u p q = record { cell = λ k i. q.cell k i ∙ p.cell k i; under_way = λ k i. q.under_way k i ∙ p.under_way k i }
 
-  same_lasting : (s : S) → Lasting ops s s
-  same_lasting s = record { cell = λ k i. refl; under_way = λ k i. refl }
+  same_stored : (s : S) → Stored ops s s
+  same_stored s = record { cell = λ k i. refl; under_way = λ k i. refl }
 
-  offered_lasting : (l : Levels) (bs : List Byte) (x : ℕ) (s : S) → Lasting ops s (moved ops s (offered l bs x))
-  offered_lasting l [] x s = (keeps.addresses s x).lasting
-  offered_lasting l (a ∷ []) x s = (keeps.aiming s a.value l x).calm.lasting
-  offered_lasting l (y ∷ (z ∷ bs)) x s = (keeps.taking s (address (z ∷ bs)) l x).lasting
+  offered_stored : (l : Levels) (bs : List Byte) (x : ℕ) (s : S) → Stored ops s (moved ops s (offered l bs x))
+  offered_stored l [] x s = (keeps.addresses s x).stored
+  offered_stored l (a ∷ []) x s = (keeps.aiming s a.value l x).calm.stored
+  offered_stored l (y ∷ (z ∷ bs)) x s = (keeps.taking s (address (z ∷ bs)) l x).stored
 
-  maybe_lasting : (q : Bool) (m : Move) (s : S) → Lasting ops s (moved ops s m) → Lasting ops s (after ops s (cond q (m ∷ []) []))
-  maybe_lasting true m s h = h
-  maybe_lasting false m s h = same_lasting s
+  maybe_stored : (q : Bool) (m : Move) (s : S) → Stored ops s (moved ops s m) → Stored ops s (after ops s (cond q (m ∷ []) []))
+  maybe_stored true m s h = h
+  maybe_stored false m s h = same_stored s
 
   -- no edge but a STOP changes a stored byte, or a write under way
-  pub edge_lasting : (e : Edge) (l : Levels) (o : Option Transfer) (s : S) → (e ≡ stopped → ⊥) → Lasting ops s (after ops s (told e l o))
-  edge_lasting steady l o s n = same_lasting s
-  edge_lasting started l o s n = (keeps.starts s).calm.lasting
-  edge_lasting stopped l o s n = absurd (n refl)
-  edge_lasting (rose w) l None s n = same_lasting s
-  edge_lasting (rose w) l (Some t) s n = maybe_lasting _ _ s (offered_lasting l t.bytes (value (w ∷ t.bits)) s)
-  edge_lasting fell l None s n = same_lasting s
-  edge_lasting fell l (Some t) s n = maybe_lasting _ _ s (keeps.gives s (address t.bytes)).calm.lasting
+  pub edge_stored : (e : Edge) (l : Levels) (o : Option Transfer) (s : S) → (e ≡ stopped → ⊥) → Stored ops s (after ops s (told e l o))
+  edge_stored steady l o s n = same_stored s
+  edge_stored started l o s n = (keeps.starts s).calm.stored
+  edge_stored stopped l o s n = absurd (n refl)
+  edge_stored (rose w) l None s n = same_stored s
+  edge_stored (rose w) l (Some t) s n = maybe_stored _ _ s (offered_stored l t.bytes (value (w ∷ t.bits)) s)
+  edge_stored fell l None s n = same_stored s
+  edge_stored fell l (Some t) s n = maybe_stored _ _ s (keeps.gives s (address t.bytes)).calm.stored
 
   -- what one call does to a cell of the numbered part k
   record Fate (b : Board S) (call : Call) (c : Board S) (h : History) (k i : ℕ) : Type 0 where
@@ -99,9 +99,9 @@ module _ {S : Type 0} (ops : Ops S) (keeps : Keeps ops) where
       let up = keeps.levels b.part l in
       let halt = keeps.stops (ops.level b.part l) (clean h.ongoing) l in
       record {
-        cell = inl (rw e (halt.cell k i ∙ up.calm.lasting.cell k i));
+        cell = inl (rw e (halt.cell k i ∙ up.calm.stored.cell k i));
         under_way = λ v u. elim (halt.under_way k i) [
-          | inl same ↦ inl (sym (up.calm.lasting.under_way k i) ∙ sym same ∙ ap (λ s. ops.under_way s k i) (sym e) ∙ u)
+          | inl same ↦ inl (sym (up.calm.stored.under_way k i) ∙ sym same ∙ ap (λ s. ops.under_way s k i) (sym e) ∙ u)
           | inr new ↦ inr (ended v (sym new.3 ∙ ap (λ s. ops.under_way s k i) (sym e) ∙ u) new.1 new.2)
         ];
       }
@@ -166,7 +166,7 @@ module _ {S : Type 0} (ops : Ops S) (keeps : Keeps ops) where
   sample_fate b x c h k i e held = elim (is_stopped (edge_of ops b (Sample x) c)) [
     | inl st ↦ stop_fate b x c h k i st (e ∙ ap (λ z. after ops (ops.level b.part (levels x)) (told z (levels x) h.ongoing)) st) held
     | inr n ↦ (
-        let r = then_lasting _ _ _ (keeps.levels b.part (levels x)).calm.lasting (edge_lasting (edge_of ops b (Sample x) c) (levels x) h.ongoing (ops.level b.part (levels x)) n) in
+        let r = then_stored _ _ _ (keeps.levels b.part (levels x)).calm.stored (edge_stored (edge_of ops b (Sample x) c) (levels x) h.ongoing (ops.level b.part (levels x)) n) in
         quiet_fate b (Sample x) c h k i (ap (λ s. ops.cell s k i) e ∙ r.cell k i) (ap (λ s. ops.under_way s k i) e ∙ r.under_way k i))
   ]
 

@@ -21,7 +21,7 @@ use Rattle.board.specs.Recovery.{Releases, more_bits, bits, TenFree, Plain, Awai
 use Rattle.board.proofs.Clocks.{bound, at_most_nine, no_rise, rise_low}
 use Rattle.board.proofs.Edges.{value_small}
 use Rattle.board.proofs.Running.{Advances, advances, good, edge_same}
-use Rattle.board.proofs.Causing.{is_stopped, edge_lasting}
+use Rattle.board.proofs.Causing.{is_stopped, edge_stored}
 
 -- how a sample with SDA released counts
 abbrev rises_in : Edge → ℕ
@@ -205,14 +205,14 @@ module _ {S : Type 0} (ops : Ops S) (keeps : Keeps ops) where
   told_cell : (e : Edge) (l : Levels) (o : Option Transfer) (s : S) (k i : ℕ) → ops.cell (after ops s (told e l o)) k i ≡ ops.cell s k i
   told_cell e l o s k i = elim (is_stopped e) [
     | inl st ↦ ap (λ z. ops.cell (after ops s (told z l o)) k i) st ∙ (keeps.stops s (clean o) l).cell k i
-    | inr n ↦ (edge_lasting ops keeps e l o s n).cell k i
+    | inr n ↦ (edge_stored ops keeps e l o s n).cell k i
   ]
 
   sample_cell : (t : Bool) (b : Board S) (x : ℕ) (c : Board S) (h : History) (k i : ℕ) → ltb x 32 ≡ t → Advances ops b (Sample x) c h → ops.cell c.part k i ≡ ops.cell b.part k i
   sample_cell true b x c h k i e a =
       ap (λ s. ops.cell s k i) (a.part ∙ ap (after ops b.part) (cond-true _ _ _ e))
       ∙ told_cell (edge_of ops b (Sample x) c) (levels x) h.ongoing (ops.level b.part (levels x)) k i
-      ∙ (keeps.levels b.part (levels x)).calm.lasting.cell k i
+      ∙ (keeps.levels b.part (levels x)).calm.stored.cell k i
   sample_cell false b x c h k i e a = ap (λ z. ops.cell z.part k i) (a.refused e)
 
   pub recoverable : (b : Board S) → b.bus.phase ≡ Closed → Recoverable ops b
@@ -222,5 +222,5 @@ module _ {S : Type 0} (ops : Ops S) (keeps : Keeps ops) where
       record {
         frees = ten_free ops at;
         awaits = λ p d x t e f. awaits at p d x t e f;
-        lasting = λ x k i. sample_cell (ltb x 32) at x _ _ k i refl (advances ops at (Sample x) (history ops b calls n) (good ops b calls closed n));
+        stored = λ x k i. sample_cell (ltb x 32) at x _ _ k i refl (advances ops at (Sample x) (history ops b calls n) (good ops b calls closed n));
       }

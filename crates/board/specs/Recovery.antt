@@ -53,7 +53,7 @@ module _ {S : Type 0} (ops : Ops S) where
     -- with SCL and SDA HIGH, a sample with SCL HIGH and SDA LOW
     pub awaits : b.bus.scl ≡ true → b.bus.sda ≡ true → (x : ℕ) → nat_lt x 32 ≡ true → odd x ≡ true → odd (x / 2) ≡ false → Awaits (step ops b (Sample x))
     -- a sample changes no stored byte
-    pub lasting : (x k i : ℕ) → ops.cell (step ops b (Sample x)).part k i ≡ ops.cell b.part k i
+    pub stored : (x k i : ℕ) → ops.cell (step ops b (Sample x)).part k i ≡ ops.cell b.part k i
 
 -- in every state of every run
 unfoldable pub Recoverable : {S : Type 0} → Ops S → Board S → Type 0

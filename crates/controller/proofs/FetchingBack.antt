@@ -96,11 +96,11 @@ module _ {S A : Type 0} (ops : Ops S) (f : S → A) (leaves : Leaves ops f) (l :
 module _ {S : Type 0} (ops : Ops S) (keeps : Keeps ops) where
   cell_left : (k i : ℕ) → Leaves ops (λ s. ops.cell s k i)
   cell_left k i = record {
-    start = λ s. (keeps.starts s).calm.lasting.cell k i;
-    address = λ s x. (keeps.addresses s x).lasting.cell k i;
-    aim = λ s y l x. (keeps.aiming s y l x).calm.lasting.cell k i;
-    give = λ s y. (keeps.gives s y).calm.lasting.cell k i;
-    level = λ s l. (keeps.levels s l).calm.lasting.cell k i;
+    start = λ s. (keeps.starts s).calm.stored.cell k i;
+    address = λ s x. (keeps.addresses s x).stored.cell k i;
+    aim = λ s y l x. (keeps.aiming s y l x).calm.stored.cell k i;
+    give = λ s y. (keeps.gives s y).calm.stored.cell k i;
+    level = λ s l. (keeps.levels s l).calm.stored.cell k i;
     stop = λ s l. (keeps.stops s false l).cell k i;
   }
 
@@ -111,11 +111,11 @@ module _ {S : Type 0} (ops : Ops S) (keeps : Keeps ops) where
 
   under_way_left : (k i : ℕ) → Leaves ops (λ s. ops.under_way s k i)
   under_way_left k i = record {
-    start = λ s. (keeps.starts s).calm.lasting.under_way k i;
-    address = λ s x. (keeps.addresses s x).lasting.under_way k i;
-    aim = λ s y l x. (keeps.aiming s y l x).calm.lasting.under_way k i;
-    give = λ s y. (keeps.gives s y).calm.lasting.under_way k i;
-    level = λ s l. (keeps.levels s l).calm.lasting.under_way k i;
+    start = λ s. (keeps.starts s).calm.stored.under_way k i;
+    address = λ s x. (keeps.addresses s x).stored.under_way k i;
+    aim = λ s y l x. (keeps.aiming s y l x).calm.stored.under_way k i;
+    give = λ s y. (keeps.gives s y).calm.stored.under_way k i;
+    level = λ s l. (keeps.levels s l).calm.stored.under_way k i;
     stop = λ s l. not_begun ((keeps.stops s false l).under_way k i);
   }
 
@@ -134,9 +134,9 @@ module _ {S : Type 0} (ops : Ops S) (keeps : Keeps ops) where
   keeps_bytes l a aim n b c is k =
       let s : S = b.part in
       let under_way : (i : ℕ) → ops.under_way c.part k i ≡ ops.under_way s k i =
-      λ i. ap (λ t. ops.under_way t k i) is ∙ read_leaves ops (λ t. ops.under_way t k i) (under_way_left k i) l a aim n (inl (λ t y x. (keeps.taking t y l x).lasting.under_way k i)) s in
+      λ i. ap (λ t. ops.under_way t k i) is ∙ read_leaves ops (λ t. ops.under_way t k i) (under_way_left k i) l a aim n (inl (λ t y x. (keeps.taking t y l x).stored.under_way k i)) s in
       record {
-        cell = λ i. ap (λ t. ops.cell t k i) is ∙ read_leaves ops (λ t. ops.cell t k i) (cell_left k i) l a aim n (inl (λ t y x. (keeps.taking t y l x).lasting.cell k i)) s;
+        cell = λ i. ap (λ t. ops.cell t k i) is ∙ read_leaves ops (λ t. ops.cell t k i) (cell_left k i) l a aim n (inl (λ t y x. (keeps.taking t y l x).stored.cell k i)) s;
         under_way = under_way;
         busy = as_busy _ _ (busy_then s c.part k under_way) (busy_then c.part s k (λ i. sym (under_way i)));
       }

@@ -10,7 +10,7 @@ use Rattle.eeprom.specs.Cells.{byte_at, staged_at, is_busy}
 use Rattle.eeprom.specs.OnePart.{of_part}
 use Rattle.eeprom.proofs.Moves.{unstages_staged}
 use Rattle.eeprom.proofs.Numbered.{staged_by}
-use Rattle.eeprom.proofs.OnePart.{Rests, unstages_rests, stages_rests, fixed, lasting, unstaged, still, stays, ended, refused, Addressed, Aimed, OwnMoves, keeps_part}
+use Rattle.eeprom.proofs.OnePart.{Rests, unstages_rests, stages_rests, fixed, stored, unstaged, still, stays, ended, refused, Addressed, Aimed, OwnMoves, keeps_part}
 use Rattle.ds1846.specs.declared.state.Ds1846.{Ds1846}
 use Rattle.ds1846.specs.declared.state.Mode.{Mode}
 use Rattle.ds1846.specs.declared.state.Mode.TheVariants.{Idle, Aiming, Writing, Reading}
@@ -84,7 +84,7 @@ taking s a l x =
     let rest = taken_rests ack s.eeprom s.counter x in
     record {
       fixed = fixed as_part s t;
-      lasting = lasting as_part s t rest;
+      stored = stored as_part s t rest;
       forgets = forgets_by ack s t refl (writing_heard s.mode _);
       acked = λ h. (s.counter, λ k i. taken_staged ack s.eeprom s.counter x k i _ (owner_then s a l h) h);
       unacked = λ h. refused as_part s t (a / 2) (unacked s a l x h) (same_taps s t rest.byte);

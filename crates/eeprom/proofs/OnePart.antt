@@ -5,7 +5,7 @@ use Rattle.std.proofs.lemmas.Bool.{eq-eqb, eqb-true, ne_eqb, and_parts, cond-tru
 use Rattle.part.specs.declared.levels.Levels.{Levels}
 use Rattle.part.specs.declared.power.PowerCut.{PowerCut}
 use Rattle.part.specs.Ops.{is}
-use Rattle.part.specs.Keeps.{Keeps, Shape, Fixed, Lasting, Unstaged, UnstagedAt, Fades, Forgets, Unheard, Still, Calm, Starts, Addresses, Aims, Takes, Passes, Stops, Finishes, Cuts, Settles}
+use Rattle.part.specs.Keeps.{Keeps, Shape, Fixed, Stored, Unstaged, UnstagedAt, Fades, Forgets, Unheard, Still, Calm, Starts, Addresses, Aims, Takes, Passes, Stops, Finishes, Cuts, Settles}
 use Rattle.part.specs.Chips.{AlwaysChip}
 use Rattle.part.proofs.Busy.{Shows, always_chip}
 use Rattle.eeprom.specs.declared.Eeprom.{Eeprom}
@@ -44,8 +44,8 @@ module _ {S : Type 0} {N : ℕ} (c : OnePart S N) where
     offset = λ k i. refl;
   }
 
-  pub lasting : (s t : S) → Rests (c.eeprom s) (c.eeprom t) → Lasting (part_of c) s t
-  lasting s t r = record { cell = λ k i. ap (λ v. of_part k v 0) (r.byte i); under_way = λ k i. ap (λ v. of_part k v None) (r.under_way i) }
+  pub stored : (s t : S) → Rests (c.eeprom s) (c.eeprom t) → Stored (part_of c) s t
+  stored s t r = record { cell = λ k i. ap (λ v. of_part k v 0) (r.byte i); under_way = λ k i. ap (λ v. of_part k v None) (r.under_way i) }
 
   pub unstaged : (t : S) → ((i : ℕ) → staged_at (c.eeprom t) i ≡ None) → Unstaged (part_of c) t
   unstaged t h k i = part_none (eqb k 0) _ (h i)
@@ -74,7 +74,7 @@ module _ {S : Type 0} {N : ℕ} (c : OnePart S N) where
   drops : (s t : S) → c.eeprom t ≡ unstages (c.eeprom s) → Forgets (part_of c) s t → Calm (part_of c) s t
   drops s t e h = record {
     fixed = fixed s t;
-    lasting = lasting s t (subst (λ f. Rests (c.eeprom s) f) (sym e) (unstages_rests (c.eeprom s)));
+    stored = stored s t (subst (λ f. Rests (c.eeprom s) f) (sym e) (unstages_rests (c.eeprom s)));
     fades = λ k i. inr (dropped s t e k i);
     forgets = h;
   }
@@ -84,7 +84,7 @@ module _ {S : Type 0} {N : ℕ} (c : OnePart S N) where
   passes s t e j h = record {
     calm = record {
       fixed = fixed s t;
-      lasting = lasting s t (subst (λ f. Rests (c.eeprom s) f) (sym e) (rests (c.eeprom s)));
+      stored = stored s t (subst (λ f. Rests (c.eeprom s) f) (sym e) (rests (c.eeprom s)));
       fades = λ k i. inl (ap (λ f. of_part k (staged_at f i) None) e);
       forgets = stays s t h;
     };
@@ -178,7 +178,7 @@ module _ {S : Type 0} {N : ℕ} (c : OnePart S N) (m : OwnMoves c) where
       let d = m.address s x in
       record {
         fixed = fixed c s t;
-        lasting = lasting c s t (subst (λ f. Rests (c.eeprom s) f) (sym d.eeprom) (unstages_rests (c.eeprom s)));
+        stored = stored c s t (subst (λ f. Rests (c.eeprom s) f) (sym d.eeprom) (unstages_rests (c.eeprom s)));
         fades = λ k i. inr (dropped c s t d.eeprom k i);
         still = still c s t d.tap;
         heard = λ y h. one_heard c _ (c.heard s) (c.heard t) x y d.heard h;

@@ -11,7 +11,7 @@ use Rattle.part.specs.Keeps.{Keeps, Shape, Fixed, Fades, UnstagedAt, Still, Star
 use Rattle.pair.specs.declared.Pair.{Pair}
 use Rattle.pair.specs.Both.{both, join, one, in_first, rest, for_first}
 use Rattle.pair.specs.Numbers.{Seen, seen, by_number, at_number, unshift, reshift, owned}
-use Rattle.pair.specs.Moves.{fixed_self, fixed_both, fades_both, still_both, forgets_both, calm_both, passes_both, settles_both, unstaged_both, one_fixed, one_lasting, one_fades, one_still, one_forgets, one_passes, one_settles}
+use Rattle.pair.specs.Moves.{fixed_self, fixed_both, fades_both, still_both, forgets_both, calm_both, passes_both, settles_both, unstaged_both, one_fixed, one_stored, one_fades, one_still, one_forgets, one_passes, one_settles}
 
 -- one write of x may come to be staged, in cell n of the part that owns the address
 abbrev Staging : ℕ → ℕ → ℕ → Type 0 → Option ℕ → Option ℕ → Type 0
@@ -76,7 +76,7 @@ module _ {A B : Type 0} (a : Ops A) (b : Ops B) (ka : Keeps a) (kb : Keeps b) wh
       let c = p.fixed in
       record {
         fixed = one_fixed a b h _ _ s c q.fixed;
-        lasting = one_lasting a b h _ _ s c p.lasting q.lasting;
+        stored = one_stored a b h _ _ s c p.stored q.stored;
         fades = one_fades a b h _ _ s c p.fades q.fades;
         still = one_still a b h _ _ s c p.still q.still;
         heard = λ y e. heard_after h s x y e;
@@ -143,7 +143,7 @@ module _ {A B : Type 0} (a : Ops A) (b : Ops B) (ka : Keeps a) (kb : Keeps b) wh
       let h = for_first a b s y in
       record {
         fixed = one_fixed a b h _ _ s p.fixed q.fixed;
-        lasting = one_lasting a b h _ _ s p.fixed p.lasting q.lasting;
+        stored = one_stored a b h _ _ s p.fixed p.stored q.stored;
         forgets = one_forgets a b h _ _ s p.forgets q.forgets;
         acked = take_acked h s y l x refl;
         unacked = take_unacked h s y l x refl;

@@ -4,7 +4,7 @@ use Rattle.std.proofs.Common.{ap, inl, inr}
 use Rattle.std.proofs.lemmas.Bool.{or_cases, or_left, or_right}
 use Rattle.part.specs.declared.levels.Levels.{Levels}
 use Rattle.part.specs.Ops.{Ops}
-use Rattle.part.specs.Keeps.{Fixed, Lasting, Fades, Unstaged, Forgets, Still, Calm, Passes, Settled}
+use Rattle.part.specs.Keeps.{Fixed, Stored, Fades, Unstaged, Forgets, Still, Calm, Passes, Settled}
 use Rattle.pair.specs.declared.Pair.{Pair}
 use Rattle.pair.specs.Both.{both, one}
 use Rattle.pair.specs.Numbers.{by_number, at_number}
@@ -20,8 +20,8 @@ fixed_self o s = record {
   offset = λ k i. refl;
 }
 
-lasting_self : {S : Type 0} (o : Ops S) (s : S) → Lasting o s s
-lasting_self o s = record { cell = λ k i. refl; under_way = λ k i. refl }
+stored_self : {S : Type 0} (o : Ops S) (s : S) → Stored o s s
+stored_self o s = record { cell = λ k i. refl; under_way = λ k i. refl }
 
 module _ {A B : Type 0} (a : Ops A) (b : Ops B) where
   -- both parts move; the first's count stays, so that a number means the same part before and after
@@ -35,8 +35,8 @@ module _ {A B : Type 0} (a : Ops A) (b : Ops B) where
     offset = λ k i. by_number a b (λ u v. v.offset i ≡ u.offset i) s t k p.count (λ _. p.offset k i) (λ _. q.offset _ i);
   }
 
-  lasting_both : (s t : Pair A B) → Fixed a s.first t.first → Lasting a s.first t.first → Lasting b s.second t.second → Lasting (both a b) s t
-  lasting_both s t c p q = record {
+  stored_both : (s t : Pair A B) → Fixed a s.first t.first → Stored a s.first t.first → Stored b s.second t.second → Stored (both a b) s t
+  stored_both s t c p q = record {
     cell = λ k i. by_number a b (λ u v. v.cell i ≡ u.cell i) s t k c.count (λ _. p.cell k i) (λ _. q.cell _ i);
     under_way = λ k i. by_number a b (λ u v. v.under_way i ≡ u.under_way i) s t k c.count (λ _. p.under_way k i) (λ _. q.under_way _ i);
   }
@@ -55,7 +55,7 @@ module _ {A B : Type 0} (a : Ops A) (b : Ops B) where
       let c = p.fixed in
       record {
         fixed = fixed_both s t c q.fixed;
-        lasting = lasting_both s t c p.lasting q.lasting;
+        stored = stored_both s t c p.stored q.stored;
         fades = fades_both s t c p.fades q.fades;
         forgets = forgets_both s t p.forgets q.forgets;
       }
@@ -77,10 +77,10 @@ module _ {A B : Type 0} (a : Ops A) (b : Ops B) where
   one_fixed true f g s p q = fixed_both s _ p (fixed_self b s.second)
   one_fixed false f g s p q = fixed_both s _ (fixed_self a s.first) q
 
-  pub one_lasting : (h : Bool) (f : A → A) (g : B → B) (s : Pair A B) → Fixed a s.first (f s.first) → Lasting a s.first (f s.first) → Lasting b s.second (g s.second)
-      → Lasting (both a b) s (one h f g s)
-  one_lasting true f g s c p q = lasting_both s _ c p (lasting_self b s.second)
-  one_lasting false f g s c p q = lasting_both s _ (fixed_self a s.first) (lasting_self a s.first) q
+  pub one_stored : (h : Bool) (f : A → A) (g : B → B) (s : Pair A B) → Fixed a s.first (f s.first) → Stored a s.first (f s.first) → Stored b s.second (g s.second)
+      → Stored (both a b) s (one h f g s)
+  one_stored true f g s c p q = stored_both s _ c p (stored_self b s.second)
+  one_stored false f g s c p q = stored_both s _ (fixed_self a s.first) (stored_self a s.first) q
 
   pub one_fades : (h : Bool) (f : A → A) (g : B → B) (s : Pair A B) → Fixed a s.first (f s.first) → Fades a s.first (f s.first) → Fades b s.second (g s.second) → Fades (both a b) s (one h f g s)
   one_fades true f g s c p q = fades_both s _ c p (λ k i. inl refl)
@@ -100,7 +100,7 @@ module _ {A B : Type 0} (a : Ops A) (b : Ops B) where
       record {
         calm = record {
           fixed = one_fixed h f g s c q.calm.fixed;
-          lasting = one_lasting h f g s c p.calm.lasting q.calm.lasting;
+          stored = one_stored h f g s c p.calm.stored q.calm.stored;
           fades = one_fades h f g s c p.calm.fades q.calm.fades;
           forgets = one_forgets h f g s p.calm.forgets q.calm.forgets;
         };

@@ -6,7 +6,7 @@ use Rattle.std.proofs.lemmas.Option.{none-some}
 use Rattle.part.specs.declared.levels.Levels.{Levels}
 use Rattle.part.specs.declared.power.PowerCut.{PowerCut}
 use Rattle.part.specs.Ops.{is}
-use Rattle.part.specs.Keeps.{Keeps, Shape, Fixed, Lasting, Forgets, Unheard, Calm, Settles}
+use Rattle.part.specs.Keeps.{Keeps, Shape, Fixed, Stored, Forgets, Unheard, Calm, Settles}
 use Rattle.part.specs.Bare.{Bare, bare_part}
 
 -- an address byte is heard where b is true, or none is
@@ -44,11 +44,11 @@ module _ {S : Type 0} (b : Bare S) where
   fixed : (s t : S) → Fixed (bare_part b) s t
   fixed s t = record { count = refl; has = λ a. refl; owner = λ a. refl; cells = λ k. refl; wipers = λ k. refl; offset = λ k i. refl }
 
-  lasting : (s t : S) → Lasting (bare_part b) s t
-  lasting s t = record { cell = λ k i. refl; under_way = λ k i. refl }
+  stored : (s t : S) → Stored (bare_part b) s t
+  stored s t = record { cell = λ k i. refl; under_way = λ k i. refl }
 
   calm : (s t : S) → Stays s t → Calm (bare_part b) s t
-  calm s t h = record { fixed = fixed s t; lasting = lasting s t; fades = λ k i. inl refl; forgets = forgets s t h }
+  calm s t h = record { fixed = fixed s t; stored = stored s t; fades = λ k i. inl refl; forgets = forgets s t h }
 
   shape : BareMoves → (s : S) → Shape (bare_part b) s
   shape m s = record {
@@ -83,7 +83,7 @@ module _ {S : Type 0} (b : Bare S) where
     starts = λ s. record { calm = calm s _ (inr (m.start s)); unstaged = λ k i. refl; unheard = silent _ (m.start s) };
     addresses = λ s x. record {
       fixed = fixed s _;
-      lasting = lasting s _;
+      stored = stored s _;
       fades = λ k i. inl refl;
       still = λ k j. refl;
       heard = λ y h. heard_one _ s _ x y (m.address s x) h;
@@ -91,7 +91,7 @@ module _ {S : Type 0} (b : Bare S) where
     aiming = λ s a l x. record { calm = calm s _ (m.aim s a l x); still = λ k j. refl; unacked = λ e k i o. refl };
     taking = λ s a l x. record {
       fixed = fixed s _;
-      lasting = lasting s _;
+      stored = stored s _;
       forgets = forgets s _ (m.take s a l x);
       acked = λ e. (0, λ k i. inl refl);
       unacked = λ e. ((λ k i o. refl), (λ k i. inl refl), (λ k j. refl));

@@ -6,7 +6,7 @@ use Rattle.std.specs.Option.{option_or}
 use Rattle.std.proofs.lemmas.Bool.{cases_eq}
 use Rattle.part.specs.declared.levels.Levels.{Levels}
 use Rattle.part.specs.Ops.{Ops}
-use Rattle.part.specs.Keeps.{Keeps, Lasting, Fades, Forgets, Finishes}
+use Rattle.part.specs.Keeps.{Keeps, Stored, Fades, Forgets, Finishes}
 use Rattle.part.specs.Moves.{Move, starting, addressing, aiming, taking, giving, levelling, stopping, finishing, cutting, renewing, moved, after}
 use Rattle.part.specs.Chips.{Chip, AlwaysChip}
 
@@ -35,7 +35,7 @@ module _ {S : Type 0} (ops : Ops S) (keeps : Keeps ops) (shows : Shows ops) wher
   abbrev Free : S → Type 0
   Free s = (k : ℕ) → ops.busy s k ≡ true → Quiet s k
 
-  was_busy : (s t : S) → Lasting ops s t → (k : ℕ) → ops.busy t k ≡ true → ops.busy s k ≡ true
+  was_busy : (s t : S) → Stored ops s t → (k : ℕ) → ops.busy t k ≡ true → ops.busy s k ≡ true
   was_busy s t l k h =
       let u = (keeps.shape t).busy_by k h in
       (keeps.shape s).busy_if k u.0 u.1.0 (sym (l.under_way k u.0) ∙ u.1.1)
@@ -47,7 +47,7 @@ module _ {S : Type 0} (ops : Ops S) (keeps : Keeps ops) (shows : Shows ops) wher
   faded s t k i (inl e) n = e ∙ n
   faded s t k i (inr e) n = e
 
-  calm : (s t : S) → Lasting ops s t → Fades ops s t → Forgets ops s t → Free s → Free t
+  calm : (s t : S) → Stored ops s t → Fades ops s t → Forgets ops s t → Free s → Free t
   calm s t l f g free k h =
       let q = free k (was_busy s t l k h) in
       record { unheard = unheard_after s t g q.unheard; unstaged = λ i. faded s t k i (f k i) (q.unstaged i) }
@@ -55,7 +55,7 @@ module _ {S : Type 0} (ops : Ops S) (keeps : Keeps ops) (shows : Shows ops) wher
   addressed : (s : S) (x : ℕ) → Free s → Free (ops.address s x)
   addressed s x free k h =
       let a = keeps.addresses s x in
-      let busy = was_busy s (ops.address s x) a.lasting k h in
+      let busy = was_busy s (ops.address s x) a.stored k h in
       let q = free k busy in
       record {
         unheard = λ y. not_true _ (λ e. ⊎_elim (λ o. clash (sym (q.unheard y) ∙ o)) (λ o. clash (sym (shows.hears_free s k x busy) ∙ o.1)) (a.heard y e));
@@ -64,11 +64,11 @@ module _ {S : Type 0} (ops : Ops S) (keeps : Keeps ops) (shows : Shows ops) wher
 
   taken_by : (b : Bool) (s : S) (a : ℕ) (l : Levels) (x : ℕ) → ops.takes s a l x ≡ b → Free s → Free (ops.take s a l x)
   taken_by true s a l x e free k h =
-      let q = free k (was_busy s (ops.take s a l x) (keeps.taking s a l x).lasting k h) in
+      let q = free k (was_busy s (ops.take s a l x) (keeps.taking s a l x).stored k h) in
       absurd (clash (sym (q.unheard a) ∙ shows.takes_heard s a l x e))
   taken_by false s a l x e free k h =
       let t = keeps.taking s a l x in
-      calm s (ops.take s a l x) t.lasting (t.unacked e).1 t.forgets free k h
+      calm s (ops.take s a l x) t.stored (t.unacked e).1 t.forgets free k h
 
   no_write : (t : S) (k : ℕ) → ((i : ℕ) → ops.under_way t k i ≡ None) → ops.busy t k ≡ true → ⊥
   no_write t k n h = let u = (keeps.shape t).busy_by k h in let e = n u.0 in let f = u.1.1 in let z : ◌≡◌ {A = ℕ} 0 1 = cc in omega arith
@@ -84,12 +84,12 @@ module _ {S : Type 0} (ops : Ops S) (keeps : Keeps ops) (shows : Shows ops) wher
       (cases_eq k q)
 
   step : (s : S) (m : Move) → Free s → Free (moved ops s m)
-  step s starting free = let c = (keeps.starts s).calm in calm s _ c.lasting c.fades c.forgets free
+  step s starting free = let c = (keeps.starts s).calm in calm s _ c.stored c.fades c.forgets free
   step s (addressing x) free = addressed s x free
-  step s (aiming a l x) free = let c = (keeps.aiming s a l x).calm in calm s _ c.lasting c.fades c.forgets free
+  step s (aiming a l x) free = let c = (keeps.aiming s a l x).calm in calm s _ c.stored c.fades c.forgets free
   step s (taking a l x) free = taken_by (ops.takes s a l x) s a l x refl free
-  step s (giving a) free = let c = (keeps.gives s a).calm in calm s _ c.lasting c.fades c.forgets free
-  step s (levelling l) free = let c = (keeps.levels s l).calm in calm s _ c.lasting c.fades c.forgets free
+  step s (giving a) free = let c = (keeps.gives s a).calm in calm s _ c.stored c.fades c.forgets free
+  step s (levelling l) free = let c = (keeps.levels s l).calm in calm s _ c.stored c.fades c.forgets free
   step s (stopping clean l) free = λ k h. record { unheard = shows.hangs_up s clean l; unstaged = (keeps.stops s clean l).unstaged k }
   step s (finishing q) free = finished s (ops.finish s q) q (keeps.finishes s q) free
   step s (cutting p) free = λ k h. absurd (no_write (ops.cut s p) k ((keeps.cuts s p).ends k) h)

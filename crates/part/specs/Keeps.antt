@@ -30,7 +30,7 @@ module _ {S : Type 0} (ops : Ops S) where
     pub offset : (k i : ℕ) → ops.offset t k i ≡ ops.offset s k i
 
   -- no stored byte changes, and no write under way comes, goes or changes
-  pub record Lasting (s t : S) : Type 0 where
+  pub record Stored (s t : S) : Type 0 where
     pub cell : (k i : ℕ) → ops.cell t k i ≡ ops.cell s k i
     pub under_way : (k i : ℕ) → ops.under_way t k i ≡ ops.under_way s k i
 
@@ -59,7 +59,7 @@ module _ {S : Type 0} (ops : Ops S) where
   -- a move that stages nothing, stores nothing and hears nothing new
   pub record Calm (s t : S) : Type 0 where
     pub fixed : Fixed s t
-    pub lasting : Lasting s t
+    pub stored : Stored s t
     pub fades : Fades s t
     pub forgets : Forgets s t
 
@@ -71,7 +71,7 @@ module _ {S : Type 0} (ops : Ops S) where
   -- an address byte x: only by an ACK is it the address heard
   pub record Addresses (s : S) (x : ℕ) (t : S) : Type 0 where
     pub fixed : Fixed s t
-    pub lasting : Lasting s t
+    pub stored : Stored s t
     pub fades : Fades s t
     pub still : Still s t
     pub heard : (y : ℕ) → ops.heard t y ≡ true → (ops.heard s y ≡ true) ⊎ ((y ≡ x) × (ops.hears s x ≡ true))
@@ -86,7 +86,7 @@ module _ {S : Type 0} (ops : Ops S) where
   -- without one nothing stays staged there, nothing comes to be staged elsewhere, and no wiper moves
   pub record Takes (s : S) (a x : ℕ) (ack : Bool) (t : S) : Type 0 where
     pub fixed : Fixed s t
-    pub lasting : Lasting s t
+    pub stored : Stored s t
     pub forgets : Forgets s t
     pub acked : ack ≡ true → (n : ℕ) × ((k i : ℕ) →
         (ops.staged t k i ≡ ops.staged s k i)

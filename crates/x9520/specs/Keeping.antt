@@ -5,7 +5,7 @@ use Rattle.std.proofs.lemmas.Bool.{and_parts, cond-true}
 use Rattle.part.specs.declared.levels.Levels.{Levels}
 use Rattle.part.specs.Keeps.{Keeps, Unstaged, Takes, Settles}
 use Rattle.eeprom.specs.Cells.{is_busy}
-use Rattle.eeprom.proofs.OnePart.{fixed, lasting, unstaged, still, refused, Addressed, Aimed, OwnMoves, keeps_part}
+use Rattle.eeprom.proofs.OnePart.{fixed, stored, unstaged, still, refused, Addressed, Aimed, OwnMoves, keeps_part}
 use Rattle.x9520.specs.declared.state.Flags.{Flags}
 use Rattle.x9520.specs.declared.state.Mode.{Mode}
 use Rattle.x9520.specs.declared.state.Mode.TheVariants.{Idle, Aiming, MemoryBytes, DcpByte, RegisterByte, Moved, Latching, Storing, Reading}
@@ -38,7 +38,7 @@ taking s a l x =
     let m = s.named in
     record {
       fixed = fixed as_part s t;
-      lasting = lasting as_part s t (taken_rests v e n m x);
+      stored = stored as_part s t (taken_rests v e n m x);
       forgets = taken_heard s a l.wp x;
       acked = λ h. (target v n m, λ k i. taken_staged v e n m x k i _ (cond-true _ _ _ (acked_known s a l.wp x h)) h);
       unacked = λ h. refused as_part s t (a / 2) (unacked s a l x h) (still as_part s t (λ j. ap (λ d. tap_at d j) (taken_dcps v s.dcps m x h)));
