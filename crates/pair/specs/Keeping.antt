@@ -158,7 +158,9 @@ module _ {A B : Type 0} (a : Ops A) (b : Ops B) (ka : Keeps a) (kb : Keeps b) wh
       record {
         fixed = fixed_both a b s t p.fixed q.fixed;
         cell = λ k i. by_number a b (λ u v. v.cell i ≡ u.cell i) s t k c (λ _. p.cell k i) (λ _. q.cell _ i);
-        under_way = λ k i. by_number a b (λ u v. (v.under_way i ≡ u.under_way i) ⊎ ((u.under_way i ≡ None) × (clean ≡ true) × (l.wp ≡ false) × (v.under_way i ≡ u.staged i))) s t k c (λ _. p.under_way k i) (λ _. q.under_way _ i);
+        under_way = λ k i. by_number a b
+            (λ u v. (v.under_way i ≡ u.under_way i) ⊎ ((u.under_way i ≡ None) × (clean ≡ true) × (l.wp ≡ false) × (v.under_way i ≡ u.staged i)))
+            s t k c (λ _. p.under_way k i) (λ _. q.under_way _ i);
         unstaged = unstaged_both a b t p.unstaged q.unstaged;
         forgets = forgets_both a b s t p.forgets q.forgets;
       }
