@@ -3,6 +3,7 @@
 
 use crate::case::{Case, Step};
 use crate::setup::levels_of;
+use crate::tables::x9520_with;
 use crate::tally::x9520_ds1846;
 use crate::told::{Same, Stored, Told};
 use board::board::Board;
@@ -26,7 +27,8 @@ pub enum Moves {
     Questions,
     // Whether parts 0 and 1 of two DS1846 own 51h.
     Owners,
-    // A pair of an X9520 and a DS1846 with a byte staged for cell 10h: what is staged in the pair, and the board made of it.
+    // A pair of an X9520 with all locked and both latches set, and a DS1846 with a byte staged for cell 10h: the register's stored byte
+    // and what is staged in the pair, and whether the board made of it is that of fresh chips.
     Renewed,
 }
 
@@ -64,7 +66,7 @@ pub static CASES: &[Case] = &[
     Case {
         name: "making a pair changes neither part, and making a board makes both chips fresh",
         steps: &[Step::Moves(Moves::Renewed)],
-        expected: "ab, same",
+        expected: "1b, ab, same",
     },
 ];
 
@@ -134,7 +136,8 @@ fn other_part(told: &mut Told) {
 }
 
 fn renewed(told: &mut Told) {
-    let pair = Pair::new(X9520::fresh(), staged());
+    let pair = Pair::new(x9520_with(3, 2), staged());
+    tell_byte(pair.cell(0, 259), told);
     tell_byte(pair.staged(1, 0x10), told);
     let board = Board::new(pair);
     told.tell(Same(board == Board::new(x9520_ds1846())));

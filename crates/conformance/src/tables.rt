@@ -150,7 +150,7 @@ fn write_register(chip: &mut X9520, byte: u8) {
 }
 
 // An X9520 with these lock bits, and with 0, 1 or 2 of its latches set, WEL first.
-fn x9520_with(lock: u8, latches: u8) -> X9520 {
+pub(super) fn x9520_with(lock: u8, latches: u8) -> X9520 {
     let mut chip = X9520::fresh();
     write_register(&mut chip, 0x02);
     write_register(&mut chip, 0x06);
