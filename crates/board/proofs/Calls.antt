@@ -5,8 +5,8 @@ use Rattle.part.specs.Ops.{Ops}
 use Rattle.board.specs.declared.answer.Answer.{Answer}
 use Rattle.board.specs.declared.board.Board.{Board}
 use Rattle.board.specs.declared.call.Call.{Call}
-use Rattle.board.specs.Runs.{step, state}
-use Rattle.board.specs.Answers.{shown, call_at, call_told, answers_of, after_all}
+use Rattle.board.specs.Runs.{step, state, call_at}
+use Rattle.board.specs.Answers.{shown, call_told, answers_of, after_all}
 
 module _ {S : Type 0} (ops : Ops S) where
   pub answers_more : (xs : List Call) (i : ℕ) (d : Call) (got : List Answer) (a : Answer) (b c : Board S) {z : List _} → i < length xs → c ≡ step ops b (get_or xs i d)

@@ -3,13 +3,9 @@ pub mod Calls
 pub mod Causing
 pub mod Clocks
 pub mod Edges
-pub mod Events
-pub mod Latching
 pub mod Lawful
-pub mod Locking
 pub mod Phases
-pub mod Placing
 pub mod Recovering
 pub mod Running
-pub mod Seated
+pub mod Samples
 pub mod Splices

@@ -15,8 +15,7 @@ use Rattle.board.specs.declared.bus.Phase.TheVariants.{Closed, Taking}
 use Rattle.board.specs.Engine.{no_bits, addressed, bit_taken, rise_at, fall_at, lower, act, level, with_levels, with_sample, sampled, finish_by, numbered}
 use Rattle.board.specs.Samples.{bit_value, odd, levels}
 use Rattle.board.specs.Wires.{Edge, steady, started, stopped, rose, fell, edge, value, Transfer, clean}
-use Rattle.board.specs.Runs.{History, told, step, state, history, edge_of, edge_at}
-use Rattle.board.specs.Lock.{IsCut}
+use Rattle.board.specs.Runs.{History, IsCut, told, step, state, history, edge_of, edge_at}
 use Rattle.board.specs.Recovery.{Releases, more_bits, bits, TenFree, Plain, Awaits, Recoverable}
 use Rattle.board.proofs.Clocks.{bound, at_most_nine, no_rise, rise_low}
 use Rattle.board.proofs.Edges.{value_small}

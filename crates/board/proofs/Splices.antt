@@ -1,53 +1,72 @@
 -- Runs of calls and of samples, one after another. Assumes nothing.
-use Rattle.std.proofs.Common.{◌≡◌, ℕ, zero, suc, refl, ap, ◌∙◌, subst}
+use Rattle.std.proofs.Common.{◌≡◌, ℕ, zero, suc, ◌+◌, ◌<◌, ◌≤◌, List, [], ◌∷◌, ◌++◌, length, refl, sym, ap, ◌∙◌, subst, arith}
 use Rattle.part.specs.Ops.{Ops}
 use Rattle.board.specs.declared.board.Board.{Board}
 use Rattle.board.specs.declared.call.Call.{Call}
-use Rattle.board.specs.declared.call.Call.TheVariants.{Sample}
-use Rattle.board.specs.Engine.{sampled}
-use Rattle.board.specs.Runs.{step, state, Reaches, Sampled}
+use Rattle.board.specs.Runs.{step, state, call_at, Reaches, Leads, Joins, GoesOn}
+use Rattle.board.specs.Answers.{after_all}
+use Rattle.board.proofs.Calls.{after_state}
 
--- a sequence with one more at its start
-abbrev after_first : {A : Type 0} → A → (ℕ → A) → ℕ → A
-after_first a rest zero = a
-after_first a rest (suc i) = rest i
+-- the first n calls of one sequence, and then the other from its first on
+joined : (ℕ → Call) → ℕ → (ℕ → Call) → ℕ → Call
+joined calls zero next j = next j
+joined calls (suc n) next zero = calls 0
+joined calls (suc n) next (suc j) = joined (λ i. calls (suc i)) n next j
+
+joined_first : (calls : ℕ → Call) (n : ℕ) (next : ℕ → Call) (j : ℕ) → j < n → joined calls n next j ≡ calls j
+unfolding joined
+joined_first calls zero next j h = absurd (omega (arith, h))
+joined_first calls (suc n) next zero h = refl
+joined_first calls (suc n) next (suc j) h = joined_first (λ i. calls (suc i)) n next j (omega (arith, h))
+
+joined_rest : (calls : ℕ → Call) (n : ℕ) (next : ℕ → Call) (j : ℕ) → joined calls n next (n + j) ≡ next j
+unfolding joined
+joined_rest calls zero next j = let z : 0 + j ≡ j = omega arith in ap next z
+joined_rest calls (suc n) next j = let z : suc n + j ≡ suc (n + j) = omega arith in ap (joined calls (suc n) next) z ∙ joined_rest (λ i. calls (suc i)) n next j
 
 module _ {S : Type 0} (ops : Ops S) where
-  state_after_first : (b : Board S) (k : Call) (calls : ℕ → Call) (n : ℕ) → state ops (step ops b k) calls n ≡ state ops b (after_first k calls) (suc n)
-  state_after_first b k calls zero = refl
-  state_after_first b k calls (suc n) = ap (λ c. step ops c (calls n)) (state_after_first b k calls n)
+  -- the same calls leave the same states
+  state_same : (b : Board S) (calls others : ℕ → Call) (n : ℕ) → ((j : ℕ) → j < n → calls j ≡ others j) → state ops b calls n ≡ state ops b others n
+  state_same b calls others zero h = refl
+  state_same b calls others (suc n) h = ap (λ c. step ops c (calls n)) (state_same b calls others n (λ j lt. h j (omega (arith, lt)))) ∙ ap (step ops (state ops b others n)) (h n (omega arith))
 
-  state_after_sample : (b : Board S) (x : ℕ) (bytes : ℕ → ℕ) (n : ℕ) → state ops (sampled ops b x) (λ i. Sample (bytes i)) n ≡ state ops b (λ i. Sample (after_first x bytes i)) (suc n)
-  state_after_sample b x bytes zero = refl
-  state_after_sample b x bytes (suc n) = ap (λ c. sampled ops c (bytes n)) (state_after_sample b x bytes n)
+  -- calls that are given from state n of a run on
+  state_rest : (b : Board S) (whole next : ℕ → Call) (n : ℕ) → ((j : ℕ) → whole (n + j) ≡ next j) → (j : ℕ) → state ops b whole (n + j) ≡ state ops (state ops b whole n) next j
+  state_rest b whole next n h zero = let z : n + 0 ≡ n = omega arith in ap (state ops b whole) z
+  state_rest b whole next n h (suc j) =
+      let z : n + suc j ≡ suc (n + j) = omega arith in
+      ap (state ops b whole) z ∙ ap (λ c. step ops c (whole (n + j))) (state_rest b whole next n h j) ∙ ap (step ops (state ops (state ops b whole n) next j)) (h j)
 
-  pub reaches_same : (b : Board S) → Reaches ops b b
+  pub goes_on : (made : Board S) → GoesOn ops made
+  unfolding GoesOn
+  goes_on made calls n next =
+      let whole = joined calls n next in
+      let before : (j : ℕ) → j ≤ n → state ops made whole j ≡ state ops made calls j =
+      λ j h. state_same made whole calls j (λ i lt. joined_first calls n next i (omega (arith, h, lt))) in
+      (whole, record {
+        first = joined_first calls n next;
+        rest = joined_rest calls n next;
+        before = before;
+        after = λ j. state_rest made whole next n (joined_rest calls n next) j ∙ ap (λ c. state ops c next j) (before n (omega arith));
+      })
+
+  -- lists of calls, one after another
+  pub after_reaches : (b : Board S) (calls : List Call) → Reaches ops b (after_all ops b calls)
   unfolding Reaches
-  reaches_same b = (λ i. Sample 0, 0, refl)
+  after_reaches b calls = (call_at calls, length calls, after_state ops b calls)
 
-  -- a call first
-  pub call_reaches : (b c : Board S) (k : Call) → Reaches ops (step ops b k) c → Reaches ops b c
-  unfolding Reaches
-  call_reaches b c k (calls, n, e) = (after_first k calls, suc n, e ∙ state_after_first b k calls n)
+  pub after_leads : (b c : Board S) (calls : List Call) → c ≡ after_all ops b calls → Leads ops b calls c
+  unfolding Leads
+  after_leads b c calls e = e ∙ after_state ops b calls
 
-  -- one run after another: the calls of the first come before the second from its last on
-  pub reaches_then : (b c d : Board S) → Reaches ops b c → Reaches ops c d → Reaches ops b d
-  unfolding Reaches
-  reaches_then b c d (calls, n, e) r = calls_before n (subst (λ c. Reaches ops c d) e r)
-    where
-      calls_before : (n : ℕ) → Reaches ops (state ops b calls n) d → Reaches ops b d
-      calls_before zero r = r
-      calls_before (suc n) r = calls_before n (call_reaches (state ops b calls n) d (calls n) r)
+  pub leads_after : (b c : Board S) (calls : List Call) → Leads ops b calls c → c ≡ after_all ops b calls
+  unfolding Leads
+  leads_after b c calls e = e ∙ sym (after_state ops b calls)
 
-  pub sampled_same : (b : Board S) → Sampled ops b b
-  unfolding Sampled
-  sampled_same b = (λ i. 0, 0, refl)
+  pub leads_none : (b : Board S) → Leads ops b [] b
+  unfolding Leads
+  leads_none b = refl
 
-  -- a sample first
-  pub sample_then : (b c : Board S) (x : ℕ) → Sampled ops (sampled ops b x) c → Sampled ops b c
-  unfolding Sampled
-  sample_then b c x (bytes, n, e) = (after_first x bytes, suc n, e ∙ state_after_sample b x bytes n)
-
-  pub sampled_reaches : (b c : Board S) → Sampled ops b c → Reaches ops b c
-  unfolding Reaches Sampled
-  sampled_reaches b c (bytes, n, e) = (λ i. Sample (bytes i), n, e)
+  pub after_more : (b : Board S) (xs ys : List Call) → after_all ops b (xs ++ ys) ≡ after_all ops (after_all ops b xs) ys
+  after_more b [] ys = refl
+  after_more b (x ∷ xs) ys = after_more (step ops b x) xs ys

@@ -1,5 +1,5 @@
 -- What calls answer and what board they leave: one call, and a list of them, one after another.
-use Rattle.std.specs.Prelude.{◌≡◌, ℕ, Bool, true, false, List, [], ◌∷◌, length, map, Some, None, Option, slice_index_or, nat_le}
+use Rattle.std.specs.Prelude.{◌≡◌, ℕ, Bool, true, false, List, [], ◌∷◌, length, map, Some, None, Option, nat_le}
 use Rattle.refusals.specs.Told.{Told, ok, refused, number, place, and_then}
 use Rattle.rows.specs.declared.row.Row.{Row}
 use Rattle.rows.specs.Rows.{room_of, Grown}
@@ -10,17 +10,13 @@ use Rattle.board.specs.declared.board.Board.{Board}
 use Rattle.board.specs.declared.call.Call.{Call}
 use Rattle.board.specs.declared.call.Call.TheVariants.{Sample, Finish, Cut}
 use Rattle.board.specs.Engine.{sample_told, finish_told}
-use Rattle.board.specs.Runs.{step, state}
+use Rattle.board.specs.Runs.{step, Leads}
 
 -- an answer by its number and its values: a level, nothing, or why the call was refused
 abbrev pub shown : Answer → Told (Option Bool)
 shown (Level high) = ok (Some high)
 shown Done = ok None
 shown (Refused r) = refused (number r) (place r)
-
--- the calls of a list by their place; past its end stands any call
-abbrev pub call_at : List Call → ℕ → Call
-call_at calls n = slice_index_or calls n (Finish 0)
 
 -- the row has room for n items more
 abbrev pub has_room : {A : Type 0} → Row A → ℕ → Bool
@@ -49,5 +45,5 @@ module _ {S : Type 0} (ops : Ops S) where
   -- The board b and a row before and after the calls, and what is told of them, with whether the row has room for all answers:
   -- the board is that of the run of these calls, or board and row are as they were.
   abbrev pub Ran : Bool → List Call → Board S → Board S → Row Answer → Row Answer → Told (Unit {0}) → Type 0
-  Ran true calls b c before after answer = (c ≡ state ops b (call_at calls) (length calls)) × Appended b calls before after × (answer ≡ ok tt)
+  Ran true calls b c before after answer = Leads ops b calls c × Appended b calls before after × (answer ≡ ok tt)
   Ran false calls b c before after answer = (c ≡ b) × (after ≡ before) × (answer ≡ refused 9 0)

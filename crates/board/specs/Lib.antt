@@ -2,7 +2,6 @@ pub mod Answers
 pub mod Cause
 pub mod Clocks
 pub mod Engine
-pub mod Lock
 pub mod Obeys
 pub mod Recovery
 pub mod Runs

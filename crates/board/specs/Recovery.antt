@@ -7,8 +7,7 @@ use Rattle.board.specs.declared.call.Call.{Call}
 use Rattle.board.specs.declared.call.Call.TheVariants.{Sample, Finish, Cut}
 use Rattle.board.specs.Samples.{odd, levels}
 use Rattle.board.specs.Wires.{Edge, steady, started, stopped, rose, fell, value}
-use Rattle.board.specs.Runs.{step, state, edge_at}
-use Rattle.board.specs.Lock.{IsCut}
+use Rattle.board.specs.Runs.{IsCut, step, state, edge_at}
 
 -- a sample in which the master releases SDA, the other lines being as they like, or one that is refused
 abbrev pub Releases : Call → Type 0

@@ -1,5 +1,5 @@
 -- A run of a board: its states under a sequence of calls, and what the wires have shown and the part has said by then.
-use Rattle.std.specs.Prelude.{◌≡◌, ℕ, zero, suc, ◌-◌, ◌/◌, ◌^◌, Bool, true, false, cond, not, ◌&&◌, List, [], ◌∷◌, length, Some, None, Option, ◌==◌, nat_lt}
+use Rattle.std.specs.Prelude.{◌≡◌, ℕ, zero, suc, ◌+◌, ◌-◌, ◌/◌, ◌^◌, ◌<◌, ◌≤◌, Bool, true, false, cond, not, ◌&&◌, List, [], ◌∷◌, length, map, Some, None, Option, ◌==◌, nat_lt, slice_index_or}
 use Rattle.part.specs.declared.levels.Levels.{Levels}
 use Rattle.part.specs.Ops.{Ops}
 use Rattle.part.specs.Moves.{Move, starting, addressing, aiming, taking, giving as giving_byte, levelling, stopping, finishing, cutting, renewing, moved}
@@ -62,6 +62,16 @@ told (rose bit) l None = []
 told (rose bit) l (Some t) = cond ((length t.bits == 7) && sending t.bytes) (offered l t.bytes (value (bit ∷ t.bits)) ∷ []) []
 told fell l None = []
 told fell l (Some t) = cond ((length t.bits == 0) && giving t.bytes) (giving_byte (address t.bytes) ∷ []) []
+
+-- a call is a power cut
+abbrev pub IsCut : Call → Type 0
+IsCut (Sample x) = ⊥
+IsCut (Finish k) = ⊥
+IsCut (Cut p) = Unit {0}
+
+-- the calls of a list by their place; past its end stands any call
+abbrev pub call_at : List Call → ℕ → Call
+call_at calls n = slice_index_or calls n (Finish 0)
 
 module _ {S : Type 0} (ops : Ops S) where
   -- the board after one call; a refused one leaves it as it was
@@ -150,6 +160,20 @@ module _ {S : Type 0} (ops : Ops S) where
   unfoldable pub Reaches : Board S → Board S → Type 0
   Reaches b c = (calls : ℕ → Call) × (n : ℕ) × (c ≡ state b calls n)
 
-  -- samples alone do
-  unfoldable pub Sampled : Board S → Board S → Type 0
-  Sampled b c = (bytes : ℕ → ℕ) × (n : ℕ) × (c ≡ state b (λ i. Sample (bytes i)) n)
+  -- these calls do, one after another, and these samples
+  unfoldable pub Leads : Board S → List Call → Board S → Type 0
+  Leads b calls c = c ≡ state b (call_at calls) (length calls)
+
+  abbrev pub SampledBy : Board S → List ℕ → Board S → Type 0
+  SampledBy b samples c = Leads b (map (λ x. Sample x) samples) c
+
+  -- The calls `whole` are the first n calls of one run and then those of another, which goes on from there; their states are the states of both.
+  pub record Joins (made : Board S) (calls : ℕ → Call) (n : ℕ) (next whole : ℕ → Call) : Type 0 where
+    pub first : (j : ℕ) → j < n → whole j ≡ calls j
+    pub rest : (j : ℕ) → whole (n + j) ≡ next j
+    pub before : (j : ℕ) → j ≤ n → state made whole j ≡ state made calls j
+    pub after : (j : ℕ) → state made whole (n + j) ≡ state (state made calls n) next j
+
+  -- Whatever calls follow a state of a run, it goes on as one run: what holds of any two of its states holds from one job to the next.
+  unfoldable pub GoesOn : Board S → Type 0
+  GoesOn made = (calls : ℕ → Call) (n : ℕ) (next : ℕ → Call) → (whole : ℕ → Call) × Joins made calls n next whole

@@ -1,10 +1,11 @@
 // A board: the bus and the part on it. Nothing lends either of them to be changed: only samples, finishes and power cuts move a board.
-ghost use Rattle.std.specs.Prelude.{◌≡◌};
+ghost use Rattle.std.specs.Prelude.{◌≡◌, [], ◌∷◌};
 ghost use Rattle.refusals.specs.Told.{told};
 ghost use Rattle.board.specs.Cause.{Caused};
-ghost use Rattle.board.specs.Lock.{Locks};
 ghost use Rattle.board.specs.Obeys.{Obeys};
 ghost use Rattle.board.specs.Recovery.{Recoverable};
+ghost use Rattle.board.specs.Runs.{SampledBy, GoesOn};
+ghost use Rattle.board.specs.Samples.{sample_byte};
 ghost use Rattle.board.specs.Engine.{idle, whole, rise, fetch, go_on, fall, start, stop, with_levels};
 ghost use Rattle.board.specs.Engine.{sampled, sample_told, finished, finish_told, cut, numbered_told, cell_told, tap_told};
 
@@ -22,16 +23,16 @@ pub struct Board<P> {
 }
 
 impl<P: Part> Board<P> {
-    // A board on which every chip of the part is fresh. What holds of every run of calls from here on stands here:
-    // each state is what the rules make of the calls so far, a stored byte changes only for cause, the lock of every
-    // X9520 holds, and ten clocks free the wires.
-    #[tactic(auto, using(crate::proofs::Lawful::made_obeys, crate::proofs::Lawful::made_causes, crate::proofs::Lawful::made_locks, crate::proofs::Lawful::made_recovers))]
+    // A board on which every chip of the part is fresh. What holds of every run of calls from here on, whatever the part, stands here:
+    // each state is what the rules make of the calls so far, a stored byte changes only for cause, ten clocks free the wires, and a run
+    // goes on as one run. What holds of the chips besides stands in the crate `runs`.
+    #[tactic(auto, using(crate::proofs::Lawful::made_obeys, crate::proofs::Lawful::made_causes, crate::proofs::Lawful::made_recovers, crate::proofs::Splices::goes_on))]
     pub fn new(part: P) -> Board<P>
         ensures made { result ≡ idle (P.Part.ops.renew part) }
         ensures obeys { Obeys P.Part.ops result }
         ensures causes { Caused P.Part.ops result }
-        ensures locks { Locks P.Part.ops result }
         ensures recovers { Recoverable P.Part.ops result }
+        ensures goes_on { GoesOn P.Part.ops result }
     {
         let mut part = part;
         part.renew();
@@ -49,9 +50,11 @@ impl<P: Part> Board<P> {
     }
 
     // Gives the board one sample, which it cannot refuse, and answers SDA on the wire.
+    #[tactic(auto, using(crate::proofs::Samples::put_sampled))]
     pub fn put(&mut self, scl: bool, sda: bool, levels: &Levels) -> bool
         ensures after { self.new ≡ with_levels P.Part.ops self.old scl sda levels.now }
         ensures answer { result ≡ self.new.bus.sda }
+        ensures sampled { SampledBy P.Part.ops self.old (sample_byte levels.now scl sda ∷ []) self.new }
     {
         let levels = *levels;
         self.part.level(levels);

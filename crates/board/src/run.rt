@@ -31,7 +31,7 @@ impl<P: Part> Board<P> {
 
     // Gives the board the calls and appends what each answers, a refusal too. A row without room for all answers is
     // refused before the first call: board and row stay as they were.
-    #[tactic(auto, using(crate::proofs::Calls::after_state))]
+    #[tactic(auto, using(crate::proofs::Splices::after_leads))]
     pub fn run(&mut self, calls: &[Call], answers: &mut Row<'_, Answer>) -> Result<(), Refusal>
         ensures run { Ran P.Part.ops (has_room answers.old (length calls.now)) calls.now self.old self.new answers.old answers.new (told (λ x. x) result) }
         ensures lender { answers.new.items.ghost_name ≡ answers.old.items.ghost_name }

@@ -1,6 +1,6 @@
 -- Short lists of bytes.
 use Rattle.std.proofs.Common.{ℕ, zero, suc, ◌<◌, List, [], ◌∷◌, arith}
-use Rattle.controller.specs.Cells.{AllBytes}
+use Rattle.storage.specs.Cells.{AllBytes}
 
 pub no_bytes : AllBytes []
 no_bytes i = omega arith

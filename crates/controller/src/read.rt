@@ -9,7 +9,7 @@ ghost use Rattle.controller.specs.Master.{run};
 ghost use Rattle.controller.specs.Jobs.{receive_all};
 ghost use Rattle.controller.specs.Said.{master_of};
 ghost use Rattle.controller.specs.Work.{read, with_room, WorksInto};
-ghost use Rattle.controller.specs.Fetching.{Fetches};
+ghost use Rattle.storage.specs.Fetching.{Fetches};
 
 use super::receiving::open_read;
 use super::transfer::Reading;

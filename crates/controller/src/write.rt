@@ -8,7 +8,7 @@ ghost use Rattle.controller.specs.Notes.{Noted};
 ghost use Rattle.controller.specs.Said.{master_of};
 ghost use Rattle.controller.specs.Jobs.{lowered};
 ghost use Rattle.controller.specs.Work.{written, Works};
-ghost use Rattle.controller.specs.Storing.{BringsBack};
+ghost use Rattle.storage.specs.Storing.{BringsBack};
 
 use super::note::Note;
 use super::sending::write_low;

@@ -3,10 +3,10 @@ use Rattle.std.proofs.lemmas.Result.{err_from_is_err_and}
 use Rattle.refusals.specs.Told.{Told, ok, refused, told}
 use Rattle.rows.specs.Rows.{room_of}
 use Rattle.controller.specs.Answers.{Into}
-use Rattle.controller.specs.Cells.{AllBytes}
+use Rattle.storage.specs.Cells.{AllBytes}
 use Rattle.controller.specs.Master.{Master, run}
 use Rattle.controller.specs.Jobs.{receive_all, reading, with_room}
-use Rattle.controller.proofs.FetchingBack.{fetches}
+use Rattle.storage.proofs.FetchingBack.{fetches}
 use Rattle.controller.proofs.Receives.{reads_all, reads_refused, same_address, roomy_run, into, lasts}
 use Rattle.controller.proofs.Sampling.{job_sampled}
 use Rattle.controller.proofs.Working.{read_works}

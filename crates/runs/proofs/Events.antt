@@ -9,6 +9,7 @@ use Rattle.part.specs.Ops.{Ops}
 use Rattle.part.specs.Keeps.{Keeps}
 use Rattle.part.specs.Moves.{Move, levelling, finishing, after}
 use Rattle.part.specs.Seats.{Seat}
+use Rattle.part.proofs.Seated.{mine_or_not}
 use Rattle.eeprom.specs.Cells.{byte_at, staged_at, under_way_at}
 use Rattle.x9520.specs.declared.state.X9520.{X9520}
 use Rattle.x9520.specs.Chip.{x9520}
@@ -24,13 +25,12 @@ use Rattle.board.specs.declared.call.Call.TheVariants.{Sample, Finish, Cut}
 use Rattle.board.specs.Engine.{numbered}
 use Rattle.board.specs.Samples.{odd, levels}
 use Rattle.board.specs.Wires.{Edge, steady, stopped, edge, next, Byte, Transfer, some_byte, is_clean, clean, values}
-use Rattle.board.specs.Runs.{History, pulls_by, told, edge_of, moves_of, onward, state, history}
+use Rattle.board.specs.Runs.{History, IsCut, pulls_by, told, edge_of, moves_of, onward, state, history}
 use Rattle.board.specs.Cause.{wp_of, EachPulled}
-use Rattle.board.specs.Lock.{IsCut}
 use Rattle.board.proofs.Running.{Advances, advances, good, edge_same}
 use Rattle.board.proofs.Causing.{edge_tag, is_stopped, clean_some, one_rise, each_pulled}
-use Rattle.board.proofs.Seated.{addr, addr_is, EachMove, My, mine_or_not, guarded_after, waiting_after, calm_after, number_after, told_sendable, told_calm}
-use Rattle.board.proofs.Placing.{At, By, Open, Keeping, open_kept, level_keeping, open_edge}
+use Rattle.runs.proofs.Seated.{addr, addr_is, EachMove, My, guarded_after, waiting_after, calm_after, number_after, told_sendable, told_calm}
+use Rattle.runs.proofs.Placing.{At, By, Open, Keeping, open_kept, level_keeping, open_edge}
 
 not_stopped : (e : Edge) → e ≡ steady → e ≡ stopped → ⊥
 not_stopped e s h = let y : ◌≡◌ {A = ℕ} 0 1 = ap edge_tag (sym s ∙ h) in omega arith
@@ -186,7 +186,7 @@ module _ {S : Type 0} (ops : Ops S) (keeps : Keeps ops) (number : S → ℕ) (se
     holds_at n v [] some r h = absurd (clash some)
     holds_at n v (x ∷ bs) some r h =
         let a = addr (values (x ∷ bs)) in
-        elim (mine_or_not ops keeps number see seat (B n).part (a / 2)) [
+        elim (mine_or_not ops x9520 number see (B n).part (a / 2)) [
           | inl m ↦ by (odd a) refl m
           | inr o ↦ apart outside (holding v) (sym (ap where_is (r.aside o)) ∙ h) (λ z. omega (arith, z))
         ]

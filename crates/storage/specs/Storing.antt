@@ -16,7 +16,7 @@ use Rattle.x9520.specs.Register.{bit}
 use Rattle.board.specs.declared.board.Board.{Board}
 use Rattle.board.specs.Engine.{idle, idle_bus, finished, cut}
 use Rattle.board.specs.Runs.{Reaches}
-use Rattle.controller.specs.Cells.{Stands}
+use Rattle.storage.specs.Cells.{Stands}
 use Rattle.controller.specs.Jobs.{writing, reading}
 use Rattle.controller.specs.Master.{run}
 

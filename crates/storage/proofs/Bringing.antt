@@ -8,15 +8,15 @@ use Rattle.part.specs.declared.levels.Levels.{Levels}
 use Rattle.part.specs.declared.power.PowerCut.{PowerCut}
 use Rattle.board.specs.Engine.{idle, idle_bus, finished, cut}
 use Rattle.board.specs.declared.board.Board.{Board}
-use Rattle.controller.specs.Cells.{AllBytes}
+use Rattle.storage.specs.Cells.{AllBytes}
 use Rattle.controller.specs.Jobs.{writing, reading}
 use Rattle.controller.specs.Master.{run}
-use Rattle.controller.specs.Storing.{Brings}
+use Rattle.storage.specs.Storing.{Brings}
 use Rattle.controller.specs.Work.{written, on_idle, read as read_work}
-use Rattle.controller.proofs.Giving.{Reads}
-use Rattle.controller.proofs.Over.{over}
+use Rattle.storage.proofs.Giving.{Reads}
+use Rattle.storage.proofs.Over.{over}
 use Rattle.controller.proofs.ReadWork.{read_run}
-use Rattle.controller.proofs.Sitting.{Sits, Same, same, same_then, same_moved, same_written, same_finished, Owned, still_owned, see_written, see_read, over_finished, bus_finished, shown_still}
+use Rattle.storage.proofs.Sitting.{Sits, Same, same, same_then, same_moved, same_written, same_finished, Owned, still_owned, see_written, see_read, over_finished, bus_finished, shown_still}
 use Rattle.controller.proofs.WriteWork.{write_work}
 
 pub idle_board : {S : Type 0} (b : Board S) → b.bus ≡ idle_bus → b ≡ idle b.part

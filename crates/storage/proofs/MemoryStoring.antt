@@ -15,12 +15,12 @@ use Rattle.x9520.specs.Writing.{Verdict, barred, pages, memory_verdict, acks, ta
 use Rattle.x9520.specs.declared.state.Device.TheVariants.{Memory}
 use Rattle.x9520.specs.declared.state.Mode.TheVariants.{Idle, MemoryBytes, Reading}
 use Rattle.x9520.specs.declared.state.X9520.{X9520}
-use Rattle.controller.specs.Cells.{Stands}
+use Rattle.storage.specs.Cells.{Stands}
 use Rattle.controller.specs.Work.{on_ack, later, closed, written, given, read}
-use Rattle.controller.proofs.Accepting.{free_if_accepted}
-use Rattle.controller.proofs.Filling.{filled, reached, turns_16, over_stands}
-use Rattle.controller.proofs.Giving.{Reads, reads_cells}
-use Rattle.controller.proofs.Over.{over, over_rest}
+use Rattle.storage.proofs.Accepting.{free_if_accepted}
+use Rattle.storage.proofs.Filling.{filled, reached, turns_16, over_stands}
+use Rattle.storage.proofs.Giving.{Reads, reads_cells}
+use Rattle.storage.proofs.Over.{over, over_rest}
 
 -- The locked memory begins where a page does, so the next cell of a page is no more locked than the cell.
 from_border : (b n : ℕ) → b % 16 ≡ 0 → leb b n ≡ false → leb b (next_in_page 16 n) ≡ false

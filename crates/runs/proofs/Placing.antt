@@ -8,6 +8,7 @@ use Rattle.part.specs.Ops.{Ops}
 use Rattle.part.specs.Keeps.{Keeps}
 use Rattle.part.specs.Moves.{addressing, aiming, taking, levelling, giving as giving_byte, moved, after}
 use Rattle.part.specs.Seats.{Seat, Routed, Aside}
+use Rattle.part.proofs.Seated.{mine_or_not}
 use Rattle.x9520.specs.declared.state.X9520.{X9520}
 use Rattle.x9520.specs.declared.state.Mode.TheVariants.{Idle}
 use Rattle.x9520.specs.Chip.{x9520}
@@ -18,7 +19,7 @@ use Rattle.board.specs.Wires.{rose, fell, edge, Byte, Transfer, transfer, value,
 use Rattle.board.specs.Runs.{pulls_by, told, offered, pulls_in, answer_after}
 use Rattle.board.proofs.Phases.{slot_low_sent}
 use Rattle.board.proofs.Bearing.{so_far}
-use Rattle.board.proofs.Seated.{addr, addr_is, My, mine_or_not}
+use Rattle.runs.proofs.Seated.{addr, addr_is, My}
 
 -- every byte is acknowledged, one without its ninth rise by the part's answer
 abbrev pub Alive : Bool → Transfer → Type 0
@@ -82,7 +83,7 @@ module _ {S : Type 0} (ops : Ops S) (keeps : Keeps ops) (number : S → ℕ) (se
   level_keeping s l = record { mode = ap (λ c. c.mode) (seat.level s l) ∙ level_mode (see s) l; owner = (keeps.levels s l).calm.fixed.owner; number_is = seat.fixed s (levelling l) }
 
   give_mode_is : (s : S) (a : ℕ) → (see (ops.give s a)).mode ≡ (see s).mode
-  give_mode_is s a = elim (mine_or_not ops keeps number see seat s (a / 2)) [
+  give_mode_is s a = elim (mine_or_not ops x9520 number see s (a / 2)) [
     | inl e ↦ elim (seat.give s a e) [ inl r ↦ ap (λ c. c.mode) r.1 ∙ give_mode (see s) a | inr r ↦ ap (λ c. c.mode) r ]
     | inr n ↦ elim (seat.give_other s a n) [ inl r ↦ ap (λ c. c.mode) r | inr r ↦ ap (λ c. c.mode) r.0 ∙ give_mode (see s) a ]
   ]
@@ -98,7 +99,7 @@ module _ {S : Type 0} (ops : Ops S) (keeps : Keeps ops) (number : S → ℕ) (se
       → (own ≡ true → Mine s (a / 2) → odd a ≡ false → where_is c.mode ≡ place xs) → (odd a ≡ true → where_is c.mode ≡ outside)
       → ((Mine s (a / 2) → ⊥) → ((see s).mode ≡ Idle) × (x9520.owner (see s) (a / 2) ≢ Some 0 → c.mode ≡ Idle)) → At t a xs
   handed s t c a xs got own owner num ack mine other writes reads idles =
-      elim (mine_or_not ops keeps number see seat s (a / 2)) [
+      elim (mine_or_not ops x9520 number see s (a / 2)) [
         | inl m ↦ elim (mine m) [
           | inl q ↦ record {
             writing = λ w e. ap (λ z. where_is z.mode) q.1 ∙ writes (sym q.0 ∙ ack) m e;

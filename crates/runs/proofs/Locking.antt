@@ -10,11 +10,9 @@ use Rattle.part.specs.Keeps.{Keeps}
 use Rattle.part.specs.Moves.{levelling}
 use Rattle.part.specs.Seats.{Seat}
 use Rattle.eeprom.specs.Cells.{byte_at, under_way_at}
-use Rattle.protection.specs.Lock.{locks_wipers}
 use Rattle.x9520.specs.declared.state.X9520.{X9520}
 use Rattle.x9520.specs.declared.state.Mode.TheVariants.{Storing}
 use Rattle.x9520.specs.Chip.{x9520}
-use Rattle.x9520.specs.Locks.{locks}
 use Rattle.x9520.specs.State.{fresh}
 use Rattle.x9520.specs.Register.{bit, stored_register}
 use Rattle.x9520.proofs.Lock.{Guarded, guarded_step, none_by, register_begins}
@@ -24,11 +22,12 @@ use Rattle.board.specs.declared.board.Board.{Board}
 use Rattle.board.specs.declared.bus.Phase.TheVariants.{Closed}
 use Rattle.board.specs.declared.call.Call.{Call}
 use Rattle.board.specs.Engine.{idle}
-use Rattle.board.specs.Runs.{state, history}
+use Rattle.board.specs.Runs.{IsCut, state, history}
 use Rattle.board.specs.Cause.{wp_of}
-use Rattle.board.specs.Lock.{IsCut, Registers, Opened, Locks, register}
-use Rattle.board.proofs.Events.{Event, calm, stops, finishes, cuts, event, guarded, cell_is, under_way_is, tap_is}
-use Rattle.board.proofs.Latching.{IsStop, clean_at, Armed, known, writes, one_byte}
+use Rattle.runs.specs.Lock.{Registers, Opened, LockHolds, Locks, register, locks_cell, locks_wipers}
+use Rattle.runs.proofs.Bits.{lock_is, wipers_is}
+use Rattle.runs.proofs.Events.{Event, calm, stops, finishes, cuts, event, guarded, cell_is, under_way_is, tap_is}
+use Rattle.runs.proofs.Latching.{IsStop, clean_at, Armed, known, writes, one_byte}
 
 module _ {S : Type 0} (ops : Ops S) (keeps : Keeps ops) (number : S → ℕ) (see : S → X9520) (seat : Seat ops x9520 number see)
     (b : Board S) (closed : b.bus.phase ≡ Closed) (new : see b.part ≡ fresh) (calls : ℕ → Call) where
@@ -190,13 +189,13 @@ module _ {S : Type 0} (ops : Ops S) (keeps : Keeps ops) (number : S → ℕ) (se
     rests i old now o (inl e) n = e
     rests i old now o (inr e) n = absurd (none-some _ (sym n ∙ e))
 
-    locked_byte : (i : ℕ) → locks (register ops b calls k p) i ≡ true → (ops.cell (B q).part k i ≡ ops.cell (B p).part k i) ⊎ Opened ops b calls k (λ r. locks r i) p q
-    locked_byte i h = elim (unchanged (λ r. locks r i) (SameByte i) p q
+    locked_byte : (i : ℕ) → locks_cell (register ops b calls k p) i ≡ true → (ops.cell (B q).part k i ≡ ops.cell (B p).part k i) ⊎ Opened ops b calls k (λ r. locks_cell r i) p q
+    locked_byte i h = elim (unchanged (λ r. locks_cell r i) (SameByte i) p q
         (λ c d m l s. (m.cells i ∙ s.0, m.under_way i ∙ s.1))
-        (λ c cl l g h s. (stop_byte (x9520.level c l) cl l i ∙ s.0, stop_locked (x9520.level c l) cl l (guarded_step c (levelling l) tt g) i h ∙ s.1))
+        (λ c cl l g h s. (stop_byte (x9520.level c l) cl l i ∙ s.0, stop_locked (x9520.level c l) cl l (guarded_step c (levelling l) tt g) i (sym (lock_is (stored_register c) i) ∙ h) ∙ s.1))
         (λ c s. (rests i _ _ _ (finish_either c i) s.1 ∙ s.0, finish_under_way c i))
         (λ n lo hi cu c w s. (rests i _ _ _ (cut_either c w i) s.1 ∙ s.0, cut_under_way c w i))
-        le (refl, none_by _ (idle_cell i)) (ap (λ r. locks r i) (sym register_is) ∙ h) (idle_cell 259)) [
+        le (refl, none_by _ (idle_cell i)) (ap (λ r. locks_cell r i) (sym register_is) ∙ h) (idle_cell 259)) [
           | inl o ↦ inr o
           | inr s ↦ inl (cell_is ops keeps number see seat b closed new calls q i ∙ s.0 ∙ sym (cell_is ops keeps number see seat b closed new calls p i))
         ]
@@ -204,7 +203,7 @@ module _ {S : Type 0} (ops : Ops S) (keeps : Keeps ops) (number : S → ℕ) (se
     locked_wiper : (j : ℕ) → locks_wipers (register ops b calls k p) ≡ true → ((n : ℕ) → p ≤ n → n < q → IsCut (calls n) → ⊥)
         → (ops.tap (B q).part k j ≡ ops.tap (B p).part k j) ⊎ Opened ops b calls k locks_wipers p q
     locked_wiper j h no_cut = elim (unchanged locks_wipers (λ c. x9520.tap c 0 j ≡ x9520.tap (C p) 0 j) p q
-        (λ c d m l s. m.wiper l j ∙ s)
+        (λ c d m l s. m.wiper (sym (wipers_is (stored_register c)) ∙ l) j ∙ s)
         (λ c cl l g h s. stop_tap (x9520.level c l) cl l j ∙ s)
         (λ c s. finish_tap c j ∙ s)
         (λ n lo hi cu c w s. absurd (no_cut n lo hi cu))
@@ -215,7 +214,7 @@ module _ {S : Type 0} (ops : Ops S) (keeps : Keeps ops) (number : S → ℕ) (se
 
 -- on a board as it is made
 pub locking : {S : Type 0} (ops : Ops S) (keeps : Keeps ops) (s : S) → Locks ops (idle (ops.renew s))
-unfolding Locks
+unfolding Locks LockHolds
 locking ops keeps s number see seat calls p q le free =
     let new = seat.renew s in
     record {

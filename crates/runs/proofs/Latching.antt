@@ -24,10 +24,11 @@ use Rattle.board.specs.declared.board.Board.{Board}
 use Rattle.board.specs.declared.bus.Phase.TheVariants.{Closed}
 use Rattle.board.specs.declared.call.Call.{Call}
 use Rattle.board.specs.Wires.{stopped, clean}
-use Rattle.board.specs.Runs.{edge_of, state, history}
+use Rattle.board.specs.Runs.{IsCut, edge_of, state, history}
 use Rattle.board.specs.Cause.{wp_of}
-use Rattle.board.specs.Lock.{IsCut, Registers}
-use Rattle.board.proofs.Events.{Event, calm, stops, finishes, cuts, event, guarded, waiting, cell_is, staged_is, sent_by, held_by}
+use Rattle.runs.specs.Lock.{Registers}
+use Rattle.runs.proofs.Bits.{forbidden_is}
+use Rattle.runs.proofs.Events.{Event, calm, stops, finishes, cuts, event, guarded, waiting, cell_is, staged_is, sent_by, held_by}
 
 module _ {S : Type 0} (ops : Ops S) (keeps : Keeps ops) (number : S → ℕ) (see : S → X9520) (seat : Seat ops x9520 number see)
     (b : Board S) (closed : b.bus.phase ≡ Closed) (new : see b.part ≡ fresh) (calls : ℕ → Call) where
@@ -49,6 +50,7 @@ module _ {S : Type 0} (ops : Ops S) (keeps : Keeps ops) (number : S → ℕ) (se
   pub writes : (n v : ℕ) → IsStop n → clean_at n ≡ true → where_is (C n).mode ≡ holding v → wp_forbids (is_some (staged_at (C n).eeprom 259)) (wp_of (calls n)) (stored_register (C n)) ≡ false → W n v
   writes n v st c h p =
       let s = sent_by ops keeps number see seat b closed new calls n v c h in
+      let q = forbidden_is _ (wp_of (calls n)) (stored_register (C n)) ∙ p in
       record {
         stop = st;
         t = s.t;
@@ -57,7 +59,7 @@ module _ {S : Type 0} (ops : Ops S) (keeps : Keeps ops) (number : S → ℕ) (se
         sent = s.bytes;
         acked = s.acked;
         mine = s.mine;
-        passes = rw (staged_is ops keeps number see seat b closed new calls n 259, cell_is ops keeps number see seat b closed new calls n 259) p;
+        passes = rw (staged_is ops keeps number see seat b closed new calls n 259, cell_is ops keeps number see seat b closed new calls n 259) q;
       }
 
   -- what is written is what the chip holds
@@ -68,7 +70,9 @@ module _ {S : Type 0} (ops : Ops S) (keeps : Keeps ops) (number : S → ℕ) (se
   one_byte n v u p q = ap held_byte (sym (holds n v p) ∙ holds n u q)
 
   passed : (n v : ℕ) → W n v → wp_forbids (is_some (staged_at (C n).eeprom 259)) (wp_of (calls n)) (stored_register (C n)) ≡ false
-  passed n v w = rw (sym (staged_is ops keeps number see seat b closed new calls n 259), sym (cell_is ops keeps number see seat b closed new calls n 259)) w.passes
+  passed n v w =
+      sym (forbidden_is _ (wp_of (calls n)) (stored_register (C n)))
+      ∙ rw (sym (staged_is ops keeps number see seat b closed new calls n 259), sym (cell_is ops keeps number see seat b closed new calls n 259)) w.passes
 
   clean_by : (n v : ℕ) → W n v → clean_at n ≡ true
   clean_by n v w = ap clean w.ongoing ∙ w.clean

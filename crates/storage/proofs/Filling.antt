@@ -9,8 +9,8 @@ use Rattle.eeprom.specs.Pages.{next_in_page}
 use Rattle.eeprom.specs.declared.Eeprom.{Eeprom}
 use Rattle.eeprom.proofs.Moves.{stages_staged, unstages_staged, begins_under_way}
 use Rattle.eeprom.proofs.OnePart.{OwnMoves}
-use Rattle.controller.specs.Cells.{falls_on, Last, Missed, Stands}
-use Rattle.controller.proofs.Over.{over, free_under_way, over_cell}
+use Rattle.storage.specs.Cells.{falls_on, Last, Missed, Stands}
+use Rattle.storage.proofs.Over.{over, free_under_way, over_cell}
 
 -- how the cells of a page follow one another, in a memory of 256 cells
 pub record Turns (page : ℕ) : Type 0 where

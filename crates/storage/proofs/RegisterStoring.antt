@@ -18,11 +18,11 @@ use Rattle.x9520.specs.declared.state.Device.TheVariants.{Register}
 use Rattle.x9520.specs.declared.state.Mode.TheVariants.{Idle, RegisterByte, Reading}
 use Rattle.x9520.specs.declared.state.X9520.{X9520}
 use Rattle.board.specs.Samples.{bit_value}
-use Rattle.controller.specs.Storing.{Shows}
+use Rattle.storage.specs.Storing.{Shows}
 use Rattle.controller.specs.Work.{on_ack, done, closed, written, given, addressed, fetched, read}
-use Rattle.controller.proofs.Accepting.{busy_refuses, free_if_accepted}
-use Rattle.controller.proofs.Giving.{Reads, reads_same}
-use Rattle.controller.proofs.Over.{over, free_under_way, over_cell, over_ready, over_rest}
+use Rattle.storage.proofs.Accepting.{busy_refuses, free_if_accepted}
+use Rattle.storage.proofs.Giving.{Reads, reads_same}
+use Rattle.storage.proofs.Over.{over, free_under_way, over_cell, over_ready, over_rest}
 use Rattle.controller.proofs.Runs.{bit_small}
 
 -- a job that writes the byte x to the register

@@ -13,7 +13,7 @@ use Rattle.board.specs.declared.board.Board.{Board}
 use Rattle.board.specs.Engine.{idle_bus}
 use Rattle.controller.specs.Jobs.{reading}
 use Rattle.controller.specs.Master.{run}
-use Rattle.controller.specs.Storing.{Brings, Made, taps_of}
+use Rattle.storage.specs.Storing.{Brings, Made, taps_of}
 
 module _ {S : Type 0} (ops : Ops S) where
   -- From the board b to the board c the chip with number k keeps its bytes, and what is under way in it.

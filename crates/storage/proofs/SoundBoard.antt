@@ -15,8 +15,8 @@ use Rattle.board.specs.declared.board.Board.{Board}
 use Rattle.board.specs.declared.bus.Phase.TheVariants.{Closed}
 use Rattle.board.specs.declared.call.Call.{Call}
 use Rattle.board.proofs.Running.{steps}
-use Rattle.board.proofs.Seated.{own, reached}
-use Rattle.controller.specs.Storing.{Made}
+use Rattle.runs.proofs.Seated.{own, reached}
+use Rattle.storage.specs.Storing.{Made}
 
 -- what makes it sound is kept by each of its moves
 abbrev Standing : X9520 → Type 0

@@ -18,21 +18,21 @@ use Rattle.x9520.specs.declared.state.Mode.TheVariants.{Idle, Aiming, MemoryByte
 use Rattle.x9520.specs.declared.state.X9520.{X9520}
 use Rattle.board.specs.Engine.{idle_bus}
 use Rattle.board.specs.declared.board.Board.{Board}
-use Rattle.controller.specs.Cells.{AllBytes}
-use Rattle.controller.specs.Fetching.{KeepsBytes, after_read, FetchesCells, Ds1846Fetches, X9520Fetches, Fetches}
+use Rattle.storage.specs.Cells.{AllBytes}
+use Rattle.storage.specs.Fetching.{KeepsBytes, after_read, FetchesCells, Ds1846Fetches, X9520Fetches, Fetches}
 use Rattle.controller.specs.Jobs.{reading, write_byte, read_byte}
 use Rattle.controller.specs.Master.{run}
-use Rattle.controller.specs.Storing.{Brings, taps_of}
+use Rattle.storage.specs.Storing.{Brings, taps_of}
 use Rattle.controller.specs.Work.{on_ack, on_ok, done, later, bytes, begun, sent, given, addressed, fetched, read as read_work}
 use Rattle.controller.proofs.AllBytes.{one_byte}
-use Rattle.controller.proofs.Bringing.{idle_board, now, asked, brings_now}
-use Rattle.controller.proofs.Ds1846Storing.{ds_reads}
-use Rattle.controller.proofs.Giving.{Reads, reads_as}
-use Rattle.controller.proofs.MemoryStoring.{memory_reads}
+use Rattle.storage.proofs.Bringing.{idle_board, now, asked, brings_now}
+use Rattle.storage.proofs.Ds1846Storing.{ds_reads}
+use Rattle.storage.proofs.Giving.{Reads, reads_as}
+use Rattle.storage.proofs.MemoryStoring.{memory_reads}
 use Rattle.controller.proofs.ReadWork.{read_run}
-use Rattle.controller.proofs.Sitting.{Sits, sitting, Same, same_read, Owned, see_read, shown_still}
-use Rattle.controller.proofs.SoundBoard.{made_sound}
-use Rattle.controller.proofs.WiperReading.{wiper_reads}
+use Rattle.storage.proofs.Sitting.{Sits, sitting, Same, same_read, Owned, see_read, shown_still}
+use Rattle.storage.proofs.SoundBoard.{made_sound}
+use Rattle.storage.proofs.WiperReading.{wiper_reads}
 
 -- what the moves of a read leave as it was in a part or a chip, as far as f shows it; only a later aim byte is not among them
 record Leaves {S A : Type 0} (ops : Ops S) (f : S → A) : Type 0 where

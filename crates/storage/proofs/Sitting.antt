@@ -13,7 +13,7 @@ use Rattle.board.specs.Engine.{finish_by, numbered, finished}
 use Rattle.board.specs.declared.board.Board.{Board}
 use Rattle.controller.specs.Jobs.{write_byte, read_byte}
 use Rattle.controller.specs.Work.{on_ack, on_ok, done, is_ok, later, bytes, begun, sent, closed, written, given, addressed, fetched, read}
-use Rattle.controller.proofs.Over.{over}
+use Rattle.storage.proofs.Over.{over}
 
 -- both address bytes of an address are its own
 write_half : (a : ℕ) → write_byte a / 2 ≡ a % 128

@@ -16,9 +16,9 @@ use Rattle.x9520.specs.declared.state.Device.TheVariants.{Dcps}
 use Rattle.x9520.specs.declared.state.Mode.{Mode}
 use Rattle.x9520.specs.declared.state.Mode.TheVariants.{Reading}
 use Rattle.x9520.specs.declared.state.X9520.{X9520}
-use Rattle.controller.specs.Storing.{taps_of}
+use Rattle.storage.specs.Storing.{taps_of}
 use Rattle.controller.specs.Work.{given, read}
-use Rattle.controller.proofs.Giving.{Reads, reads_same}
+use Rattle.storage.proofs.Giving.{Reads, reads_same}
 
 -- the chip in a transfer to the DCPs, where it has named DCP m
 abbrev pub at_mode : X9520 → ℕ → Mode → X9520

@@ -27,11 +27,11 @@ use Rattle.x9520.specs.declared.state.Device.TheVariants.{Dcps}
 use Rattle.x9520.specs.declared.state.Mode.TheVariants.{DcpByte}
 use Rattle.x9520.specs.declared.state.X9520.{X9520}
 use Rattle.x9520.proofs.Calm.{stop_begins, stop_byte}
-use Rattle.controller.specs.Storing.{dcp_byte, taps_of, Means}
+use Rattle.storage.specs.Storing.{dcp_byte, taps_of, Means}
 use Rattle.controller.specs.Work.{written}
-use Rattle.controller.proofs.Accepting.{free_if_accepted}
-use Rattle.controller.proofs.Over.{over, free_under_way, over_cell, over_ready, over_rest}
-use Rattle.controller.proofs.WiperReading.{at_mode, dcp_of, tap_is, names_dcp}
+use Rattle.storage.proofs.Accepting.{free_if_accepted}
+use Rattle.storage.proofs.Over.{over, free_under_way, over_cell, over_ready, over_rest}
+use Rattle.storage.proofs.WiperReading.{at_mode, dcp_of, tap_is, names_dcp}
 
 -- A byte means the tap that it moves a wiper to.
 by_table : (b : ℕ) (e : Entry) → Inverse b e → (byte_of e.tap ≡ b) ⊎ (byte_of e.tap ≡ b → ⊥) → Means 100 b e.tap

@@ -1,4 +1,4 @@
--- Where an X9520 on the board stands in a write to its register, and what the wires show of that write. Assumes nothing.
+-- What the moves that the wires tell of are to an X9520 on the board. Assumes nothing.
 use Rattle.std.proofs.Common.{◌≡◌, ℕ, suc, ◌/◌, ◌^◌, ◌<◌, Bool, true, false, cond, ◌⊎◌, List, [], ◌∷◌, length, eqb, Some, None, Option, refl, sym, ap, ◌∙◌, subst, inl, inr}
 use Rattle.std.proofs.lemmas.Bool.{and_parts, cases_eq, eqb-true}
 use Rattle.std.proofs.lemmas.Option.{none-some, same_Some}
@@ -7,6 +7,7 @@ use Rattle.part.specs.Ops.{Ops}
 use Rattle.part.specs.Keeps.{Keeps}
 use Rattle.part.specs.Moves.{Move, starting, addressing, aiming, taking, levelling, stopping, giving as giving_byte, finishing, cutting, renewing, moved, after}
 use Rattle.part.specs.Seats.{Seat, Mine}
+use Rattle.part.proofs.Seated.{own, reached}
 use Rattle.x9520.specs.declared.state.X9520.{X9520}
 use Rattle.x9520.specs.Chip.{x9520}
 use Rattle.x9520.proofs.Lock.{Guarded, Sendable, guarded_step}
@@ -27,10 +28,6 @@ addr_is [] = refl
 addr_is (x ∷ []) = refl
 addr_is (x ∷ (y ∷ bs)) = addr_is (y ∷ bs)
 
-same_number : (o : Option ℕ) (k : ℕ) → (o ≡ Some k) ⊎ (o ≡ Some k → ⊥)
-same_number None k = inr (none-some k)
-same_number (Some j) k = elim (cases_eq j k) [ inl e ↦ inl (ap Some e) | inr n ↦ inr (λ e. n (same_Some j k e)) ]
-
 abbrev pub EachMove : (Move → Type 0) → List Move → Type 0
 EachMove P [] = Unit {0}
 EachMove P (m ∷ ms) = P m × EachMove P ms
@@ -38,50 +35,6 @@ EachMove P (m ∷ ms) = P m × EachMove P ms
 module _ {S : Type 0} (ops : Ops S) (keeps : Keeps ops) (number : S → ℕ) (see : S → X9520) (seat : Seat ops x9520 number see) where
   abbrev pub My : S → ℕ → Type 0
   My s n = Mine ops x9520 number see s n
-
-  pub mine_or_not : (s : S) (n : ℕ) → My s n ⊎ (My s n → ⊥)
-  mine_or_not s n = same_number (ops.owner s n) (number s)
-
-  -- a finish of its number is one of the chip's only number
-  abbrev pub own : Move → Move
-  own starting = starting
-  own (addressing x) = addressing x
-  own (aiming a l x) = aiming a l x
-  own (taking a l x) = taking a l x
-  own (giving_byte a) = giving_byte a
-  own (levelling l) = levelling l
-  own (stopping clean l) = stopping clean l
-  own (finishing k) = finishing 0
-  own (cutting p) = cutting p
-  own renewing = renewing
-
-  -- a move reaches the chip, or leaves it untouched, or as after a START
-  abbrev Reached : S → Move → Type 0
-  Reached s m = (see (moved ops s m) ≡ moved x9520 (see s) (own m)) ⊎ ((see (moved ops s m) ≡ see s) ⊎ (see (moved ops s m) ≡ x9520.start (see s)))
-
-  pub reached : (s : S) (m : Move) → Reached s m
-  reached s starting = inl (seat.start s)
-  reached s (addressing x) = elim (mine_or_not s (x / 2)) [
-    | inl e ↦ elim (seat.address s x e) [ inl r ↦ inl r.1 | inr r ↦ inr r.1 ]
-    | inr n ↦ elim (seat.address_other s x n) [ inl r ↦ inr (inl r) | inr r ↦ inl r.0 ]
-  ]
-  reached s (aiming a l x) = elim (mine_or_not s (a / 2)) [
-    | inl e ↦ elim (seat.aim s a l x e) [ inl r ↦ inl r.1 | inr r ↦ inr r.1 ]
-    | inr n ↦ elim (seat.aim_other s a l x n) [ inl r ↦ inr (inl r) | inr r ↦ inl r.0 ]
-  ]
-  reached s (taking a l x) = elim (mine_or_not s (a / 2)) [
-    | inl e ↦ elim (seat.take s a l x e) [ inl r ↦ inl r.1 | inr r ↦ inr r.1 ]
-    | inr n ↦ elim (seat.take_other s a l x n) [ inl r ↦ inr (inl r) | inr r ↦ inl r.0 ]
-  ]
-  reached s (giving_byte a) = elim (mine_or_not s (a / 2)) [
-    | inl e ↦ elim (seat.give s a e) [ inl r ↦ inl r.1 | inr r ↦ inr (inl r) ]
-    | inr n ↦ elim (seat.give_other s a n) [ inl r ↦ inr (inl r) | inr r ↦ inl r.0 ]
-  ]
-  reached s (levelling l) = inl (seat.level s l)
-  reached s (stopping clean l) = inl (seat.stop s clean l)
-  reached s (finishing k) = elim (cases_eq k (number s)) [ inl e ↦ inl (ap (λ j. see (ops.finish s j)) e ∙ seat.finish s) | inr n ↦ inr (inl (seat.finish_other s k n)) ]
-  reached s (cutting p) = inl (seat.cut s p)
-  reached s renewing = inl (seat.renew s)
 
   own_sendable : (m : Move) → Sendable m → Sendable (own m)
   own_sendable starting h = h
@@ -109,7 +62,7 @@ module _ {S : Type 0} (ops : Ops S) (keeps : Keeps ops) (number : S → ℕ) (se
 
   pub guarded_after : (ms : List Move) (s : S) → EachMove Sendable ms → Guarded (see s) → Guarded (see (after ops s ms))
   guarded_after [] s h g = g
-  guarded_after (m ∷ ms) s h g = guarded_after ms (moved ops s m) h.1 (elim (reached s m) [
+  guarded_after (m ∷ ms) s h g = guarded_after ms (moved ops s m) h.1 (elim (reached ops x9520 number see seat s m) [
     | inl e ↦ subst Guarded (sym e) (guarded_step (see s) (own m) (own_sendable m h.0) g)
     | inr (inl e) ↦ subst Guarded (sym e) g
     | inr (inr e) ↦ subst Guarded (sym e) (guarded_step (see s) starting tt g)
@@ -117,7 +70,7 @@ module _ {S : Type 0} (ops : Ops S) (keeps : Keeps ops) (number : S → ℕ) (se
 
   pub waiting_after : (ms : List Move) (s : S) → Waiting (see s) → Waiting (see (after ops s ms))
   waiting_after [] s h = h
-  waiting_after (m ∷ ms) s h = waiting_after ms (moved ops s m) (elim (reached s m) [
+  waiting_after (m ∷ ms) s h = waiting_after ms (moved ops s m) (elim (reached ops x9520 number see seat s m) [
     | inl e ↦ subst Waiting (sym e) (waiting_step (see s) (own m) h)
     | inr (inl e) ↦ subst Waiting (sym e) h
     | inr (inr e) ↦ subst Waiting (sym e) (waiting_step (see s) starting h)
@@ -125,7 +78,7 @@ module _ {S : Type 0} (ops : Ops S) (keeps : Keeps ops) (number : S → ℕ) (se
 
   pub calm_after : (ms : List Move) (s : S) → EachMove Calms ms → CalmMove (see s) (see (after ops s ms))
   calm_after [] s h = calm_same (see s)
-  calm_after (m ∷ ms) s h = calm_then _ _ _ (elim (reached s m) [
+  calm_after (m ∷ ms) s h = calm_then _ _ _ (elim (reached ops x9520 number see seat s m) [
     | inl e ↦ subst (CalmMove (see s)) (sym e) (calm_move (see s) (own m) (own_calm m h.0))
     | inr (inl e) ↦ calm_equal (see s) _ e
     | inr (inr e) ↦ subst (CalmMove (see s)) (sym e) (calm_move (see s) starting tt)

@@ -17,22 +17,22 @@ use Rattle.x9520.specs.Sound.{Sound}
 use Rattle.x9520.specs.declared.state.X9520.{X9520}
 use Rattle.board.specs.Engine.{idle_bus, finished, cut}
 use Rattle.board.specs.declared.board.Board.{Board}
-use Rattle.controller.specs.Cells.{AllBytes, Last, Stands}
+use Rattle.storage.specs.Cells.{AllBytes, Last, Stands}
 use Rattle.controller.specs.Jobs.{writing}
 use Rattle.controller.specs.Master.{run}
-use Rattle.controller.specs.Storing.{BringsCells, HoldsCells, BringsTap, Ds1846Stores, MemoryStores, WiperStores, RegisterStores, Enables, Stores, BringsBack, dcp_byte, taps_of, Means}
+use Rattle.storage.specs.Storing.{BringsCells, HoldsCells, BringsTap, Ds1846Stores, MemoryStores, WiperStores, RegisterStores, Enables, Stores, BringsBack, dcp_byte, taps_of, Means}
 use Rattle.controller.specs.Work.{written}
 use Rattle.controller.proofs.AllBytes.{no_bytes, one_byte, one_more}
-use Rattle.controller.proofs.Bringing.{Now, now, asked, job_kept, job_now, finish_now, cut_now, brings_now}
-use Rattle.controller.proofs.Ds1846Storing.{tap_capped, ds_accepts, ds_cells, ds_reads}
-use Rattle.controller.proofs.Giving.{Reads, reads_as}
-use Rattle.controller.proofs.MemoryStoring.{memory_accepts, memory_cells, memory_latches, memory_wipers, memory_reads}
-use Rattle.controller.proofs.Over.{over, over_ready}
-use Rattle.controller.proofs.RegisterStoring.{enabled_if, enabled_if_accepted, register_accepts, register_cell, register_others, register_wipers, register_wel, register_reads}
-use Rattle.controller.proofs.Sitting.{Sits, sitting, Same, same_then, Owned}
-use Rattle.controller.proofs.SoundBoard.{made_sound}
-use Rattle.controller.proofs.WiperReading.{wiper_reads}
-use Rattle.controller.proofs.WiperStoring.{job, wiper_accepts, wiper_moves, wiper_others, wiper_finish, wiper_returns, wiper_falls_back, wiper_holds, wiper_cells, wiper_free, wiper_wel, sound_written, sound_over, sound_cut, cut_free}
+use Rattle.storage.proofs.Bringing.{Now, now, asked, job_kept, job_now, finish_now, cut_now, brings_now}
+use Rattle.storage.proofs.Ds1846Storing.{tap_capped, ds_accepts, ds_cells, ds_reads}
+use Rattle.storage.proofs.Giving.{Reads, reads_as}
+use Rattle.storage.proofs.MemoryStoring.{memory_accepts, memory_cells, memory_latches, memory_wipers, memory_reads}
+use Rattle.storage.proofs.Over.{over, over_ready}
+use Rattle.storage.proofs.RegisterStoring.{enabled_if, enabled_if_accepted, register_accepts, register_cell, register_others, register_wipers, register_wel, register_reads}
+use Rattle.storage.proofs.Sitting.{Sits, sitting, Same, same_then, Owned}
+use Rattle.storage.proofs.SoundBoard.{made_sound}
+use Rattle.storage.proofs.WiperReading.{wiper_reads}
+use Rattle.storage.proofs.WiperStoring.{job, wiper_accepts, wiper_moves, wiper_others, wiper_finish, wiper_returns, wiper_falls_back, wiper_holds, wiper_cells, wiper_free, wiper_wel, sound_written, sound_over, sound_cut, cut_free}
 
 -- the bytes of a job for the register, and of an aim at it
 register_bytes : (x : ℕ) → x < 256 → AllBytes (255 ∷ (x ∷ []))

@@ -10,12 +10,12 @@ use Rattle.ds1846.specs.Chip.{ds1846, as_part, chip, taken, tap_of}
 use Rattle.ds1846.specs.Keeping.{moves}
 use Rattle.ds1846.specs.declared.state.Ds1846.{Ds1846}
 use Rattle.ds1846.specs.declared.state.Mode.TheVariants.{Idle, Writing, Reading}
-use Rattle.controller.specs.Cells.{Stands}
+use Rattle.storage.specs.Cells.{Stands}
 use Rattle.controller.specs.Work.{on_ack, later, sent, closed, written, given, read}
-use Rattle.controller.proofs.Accepting.{free_if_accepted}
-use Rattle.controller.proofs.Filling.{turns_8, filled, reached, over_stands}
-use Rattle.controller.proofs.Giving.{Reads, reads_cells}
-use Rattle.controller.proofs.Over.{over}
+use Rattle.storage.proofs.Accepting.{free_if_accepted}
+use Rattle.storage.proofs.Filling.{turns_8, filled, reached, over_stands}
+use Rattle.storage.proofs.Giving.{Reads, reads_cells}
+use Rattle.storage.proofs.Over.{over}
 
 -- wipers 0 and 2 follow their bytes up to tap 99
 pub tap_capped : (n : ℕ) → tap_of n ≡ min n 99
