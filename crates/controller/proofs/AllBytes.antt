@@ -1,6 +1,6 @@
 -- Short lists of bytes.
 use Rattle.std.proofs.Common.{ℕ, zero, suc, ◌<◌, List, [], ◌∷◌, arith}
-use Rattle.storage.specs.Cells.{AllBytes}
+use Rattle.controller.specs.Bytes.{AllBytes}
 
 pub no_bytes : AllBytes []
 no_bytes i = omega arith

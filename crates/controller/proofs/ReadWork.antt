@@ -11,7 +11,7 @@ use Rattle.board.specs.declared.board.Board.{Board}
 use Rattle.board.specs.declared.bus.Kind.TheVariants.{Address, Later}
 use Rattle.board.specs.declared.bus.Next.TheVariants.{ThenGiven}
 use Rattle.controller.specs.Bytes.{receive, start}
-use Rattle.storage.specs.Cells.{AllBytes}
+use Rattle.controller.specs.Bytes.{AllBytes}
 use Rattle.controller.specs.Jobs.{receive_all, read_byte, write_byte, open_with, close, unless_refused, stop_refused, end_refused, addressing, sending, reading}
 use Rattle.controller.specs.Master.{ended, ◌then◌, run}
 use Rattle.controller.specs.Work.{given, done, on_ack, on_ok, begun, sent, addressed, fetched, on_idle, read as read_work}

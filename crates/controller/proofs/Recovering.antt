@@ -7,9 +7,9 @@ use Rattle.part.specs.declared.levels.Levels.{Levels}
 use Rattle.board.specs.declared.board.Board.{Board}
 use Rattle.board.specs.Engine.{idle_bus, with_levels}
 use Rattle.board.specs.Clocks.{clock, clocks, Frees}
-use Rattle.board.specs.Runs.{Sampled}
+use Rattle.board.specs.Runs.{SampledBy}
 use Rattle.board.proofs.Clocks.{bound, at_most_nine, clock_low}
-use Rattle.controller.specs.Master.{Master, ended, ◌then◌, run}
+use Rattle.controller.specs.Master.{Master, ended, ◌then◌, run, samples_of}
 use Rattle.controller.specs.Bytes.{put, stop, clock as clock_master}
 use Rattle.controller.specs.Recovery.{release, clocking, recovering, released, Recovers}
 use Rattle.controller.proofs.Runs.{put_sample, onward}
@@ -140,7 +140,7 @@ module _ {S : Type 0} (ops : Ops S) (l : Levels) where
       let after : d ≡ released ops l (clocks ops l k b) = sym e ∙ release_run c ∙ ap (released ops l) is in
       record { frees = f; after_is = after; idle = ap (λ d. d.bus) after ∙ released_idle (clocks ops l k b) (clocked_high k b f.least) f.high }
 
-  pub recovery_sampled : (k : ℕ) (b c d : Board S) → Frees ops l k b → c ≡ clocks ops l k b → (run ops (release l) c).0 ≡ d → Sampled ops b d
+  pub recovery_sampled : (k : ℕ) (b c d : Board S) → Frees ops l k b → c ≡ clocks ops l k b → (run ops (release l) c).0 ≡ d → SampledBy ops b (samples_of ops (recovering l) b) d
   recovery_sampled k b c d f is e = job_sampled ops (recovering l) b d _ (recovered k b c d f is e)
 
 pub ruleset recovery = (recovered, recovers)

@@ -8,43 +8,14 @@ use Rattle.part.specs.Ops.{Ops}
 use Rattle.part.specs.declared.levels.Levels.{Levels}
 use Rattle.board.specs.declared.board.Board.{Board}
 use Rattle.board.specs.Engine.{sampled, with_sample, with_levels, sample_told}
-use Rattle.board.specs.Samples.{bit_value, odd}
+use Rattle.board.specs.Samples.{bit_value, odd, sample_byte}
+use Rattle.board.proofs.Samples.{bit_small, byte_sampled}
 use Rattle.controller.specs.Master.{Master, ended, gives, ◌then◌, after_sample, reads, run}
-use Rattle.controller.specs.Bytes.{sample_of, send_bit, read_bit, send_bits, read_bits, send, receive}
+use Rattle.controller.specs.Bytes.{send_bit, read_bit, send_bits, read_bits, send, receive}
 
 pub byte_bit : (b : Bool) → bool_byte b ≡ bit_value b
 byte_bit true = refl
 byte_bit false = refl
-
-pub bit_small : (b : Bool) → bit_value b < 2
-bit_small true = omega arith
-bit_small false = omega arith
-
--- every sample of the tool is one that the board takes
-sample_small : (l : Levels) (scl sda : Bool) → sample_of l scl sda < 32
-sample_small l scl sda =
-    omega (arith, bit_small scl, bit_small sda, bit_small l.wp, bit_small l.v2ro, bit_small l.v3ro)
-
--- and its byte has the bits that it was made of
-bit_at : (b : Bool) (n x : ℕ) → x ≡ bit_value b + 2 * n → odd x ≡ b
-bit_at true n x e = eq-eqb (x % 2) 1 (omega (arith, e))
-bit_at false n x e = ne_eqb (x % 2) 1 (λ f. absurd (omega (arith, e, f)))
-
-module _ (l : Levels) (scl sda : Bool) where
-  scl_bit : odd (sample_of l scl sda) ≡ scl
-  scl_bit = bit_at scl (bit_value sda + 2 * bit_value l.wp + 4 * bit_value l.v2ro + 8 * bit_value l.v3ro) _ (omega arith)
-
-  sda_bit : odd (sample_of l scl sda / 2) ≡ sda
-  sda_bit = bit_at sda (bit_value l.wp + 2 * bit_value l.v2ro + 4 * bit_value l.v3ro) _ (omega (arith, bit_small scl))
-
-  wp_bit : odd (sample_of l scl sda / 4) ≡ l.wp
-  wp_bit = bit_at l.wp (bit_value l.v2ro + 2 * bit_value l.v3ro) _ (omega (arith, bit_small scl, bit_small sda))
-
-  v2ro_bit : odd (sample_of l scl sda / 8) ≡ l.v2ro
-  v2ro_bit = bit_at l.v2ro (bit_value l.v3ro) _ (omega (arith, bit_small scl, bit_small sda, bit_small l.wp))
-
-  v3ro_bit : odd (sample_of l scl sda / 16) ≡ l.v3ro
-  v3ro_bit = bit_at l.v3ro 0 _ (omega (arith, bit_small scl, bit_small sda, bit_small l.wp, bit_small l.v2ro))
 
 apart : {X A : Type 0} (a : A) (m n : ℕ) → ◌≡◌ {A = Told A} (ok a) (refused m n) → X
 apart a m n e =
@@ -59,12 +30,10 @@ its_level (Err refusal) level e = apart level (number refusal) (place refusal) (
 module _ {S : Type 0} (ops : Ops S) where
   -- the board after a sample of the tool, and the answer
   pub put_sample : (l : Levels) (scl sda : Bool) (b after : Board S) (level : Bool) → after ≡ with_levels ops b scl sda l → level ≡ after.bus.sda
-      → ◌≡◌ {A = Board S × Bool} (after_sample ops b (sample_of l scl sda), reads ops b (sample_of l scl sda)) (after, level)
+      → ◌≡◌ {A = Board S × Bool} (after_sample ops b (sample_byte l scl sda), reads ops b (sample_byte l scl sda)) (after, level)
   unfolding after_sample reads
   put_sample l scl sda b after level e f =
-      let same : with_sample ops b (sample_of l scl sda) ≡ with_levels ops b scl sda l = λ i.
-      with_levels ops b (scl_bit l scl sda i) (sda_bit l scl sda i) (record { wp = wp_bit l scl sda i; v2ro = v2ro_bit l scl sda i; v3ro = v3ro_bit l scl sda i }) in
-      let h : sampled ops b (sample_of l scl sda) ≡ after = rw (lt-ltb _ 32 (sample_small l scl sda)) (same ∙ sym e) in
+      let h : sampled ops b (sample_byte l scl sda) ≡ after = byte_sampled ops l scl sda b ∙ sym e in
       λ i. (h i, (ap (λ c. c.bus.sda) h ∙ sym f) i)
 
   -- a sample that is not refused is answered

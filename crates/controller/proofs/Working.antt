@@ -9,7 +9,7 @@ use Rattle.board.specs.Engine.{idle}
 use Rattle.board.specs.declared.board.Board.{Board}
 use Rattle.rows.specs.declared.row.Row.{Row}
 use Rattle.controller.specs.Answers.{Into}
-use Rattle.storage.specs.Cells.{AllBytes}
+use Rattle.controller.specs.Bytes.{AllBytes}
 use Rattle.controller.specs.Jobs.{writing, reading, unless_ready, waiting, with_room as with_room_given}
 use Rattle.controller.specs.Master.{ended, run}
 use Rattle.controller.specs.Work.{written, polled, with_room, on_idle, Works, WorksInto, read as read_work, unless_ready as unless_ready_work}

@@ -12,7 +12,7 @@ use Rattle.board.specs.declared.bus.Kind.{Kind}
 use Rattle.board.specs.declared.bus.Kind.TheVariants.{Address, First, Later}
 use Rattle.board.specs.declared.bus.Next.TheVariants.{ThenLater}
 use Rattle.controller.specs.Bytes.{start, stop}
-use Rattle.storage.specs.Cells.{AllBytes}
+use Rattle.controller.specs.Bytes.{AllBytes}
 use Rattle.controller.specs.Jobs.{acked, unless_refused, send_one, send_all, open_with, write_byte, sending, writing}
 use Rattle.controller.specs.Master.{◌then◌, run}
 use Rattle.controller.specs.Work.{on_ack, is_ok, later, bytes, sent, written, on_idle}

@@ -1,16 +1,16 @@
 -- What the tool's master gives for START, a bit, a byte and STOP, at the levels l of the lines beside the wires.
-use Rattle.std.specs.Prelude.{ℕ, zero, suc, ◌+◌, ◌*◌, ◌/◌, ◌^◌, Bool, true, false, not}
+use Rattle.std.specs.Prelude.{ℕ, zero, suc, ◌+◌, ◌*◌, ◌/◌, ◌^◌, ◌<◌, Bool, true, false, not, List, slice_index_or}
 use Rattle.part.specs.declared.levels.Levels.{Levels}
-use Rattle.board.specs.Samples.{bit_value, odd}
+use Rattle.board.specs.Samples.{bit_value, odd, sample_byte}
 use Rattle.controller.specs.Master.{Master, ended, gives, ◌then◌}
 
--- the sample byte of some levels
-abbrev pub sample_of : Levels → Bool → Bool → ℕ
-sample_of l scl sda = bit_value scl + 2 * bit_value sda + (4 * bit_value l.wp + 8 * bit_value l.v2ro + 16 * bit_value l.v3ro)
+-- each of a list is a byte
+abbrev pub AllBytes : List ℕ → Type 0
+AllBytes xs = (i : ℕ) → slice_index_or xs i 0 < 256
 
 -- one sample: SCL and SDA as the master drives them; it reads SDA on the wire
 abbrev pub put : Levels → Bool → Bool → Master Bool
-put l scl sda = gives (sample_of l scl sda) ended
+put l scl sda = gives (sample_byte l scl sda) ended
 
 -- a clock is 01, 11 with SDA released; it reads the level of the second
 unfoldable pub clock : Levels → Master Bool

@@ -1,12 +1,9 @@
 pub mod Answers
 pub mod Bytes
-pub mod Cells
-pub mod Fetching
 pub mod Jobs
 pub mod Master
 pub mod Notes
 pub mod Recovery
 pub mod Said
-pub mod Storing
 pub mod Transfers
 pub mod Work

@@ -1,5 +1,5 @@
 -- A master: from what it has read so far it says which sample it gives next, or it has ended with an answer.
-use Rattle.std.specs.Prelude.{ℕ, Bool}
+use Rattle.std.specs.Prelude.{ℕ, Bool, List, [], ◌∷◌}
 use Rattle.part.specs.Ops.{Ops}
 use Rattle.board.specs.declared.board.Board.{Board}
 use Rattle.board.specs.Engine.{sampled}
@@ -26,3 +26,8 @@ module _ {S : Type 0} (ops : Ops S) where
   abbrev pub run : {A : Type 0} → Master A → Board S → Board S × A
   run (ended a) b = (b, a)
   run (gives x k) b = run (k (reads b x)) (after_sample b x)
+
+  -- the samples that it gives in that run
+  abbrev pub samples_of : {A : Type 0} → Master A → Board S → List ℕ
+  samples_of (ended a) b = []
+  samples_of (gives x k) b = x ∷ samples_of (k (reads b x)) (after_sample b x)

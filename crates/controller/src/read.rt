@@ -1,15 +1,14 @@
 // The read job.
-ghost use Rattle.std.specs.Prelude.{◌≡◌, ℕ, ◌+◌, ◌≤◌, true, List, [], length, nat_le};
+ghost use Rattle.std.specs.Prelude.{◌≡◌, ℕ, ◌+◌, ◌≤◌, List, [], length};
 ghost use Rattle.refusals.specs.Told.{ok, told};
-ghost use Rattle.board.specs.Runs.{Sampled};
+ghost use Rattle.board.specs.Runs.{SampledBy};
 ghost use Rattle.jobfile.specs.Said.{shown_read};
 ghost use Rattle.rows.specs.Rows.{items_of, room_of, Grown};
 ghost use Rattle.controller.specs.Answers.{Into, Lasts};
-ghost use Rattle.controller.specs.Master.{run};
+ghost use Rattle.controller.specs.Master.{run, samples_of};
 ghost use Rattle.controller.specs.Jobs.{receive_all};
 ghost use Rattle.controller.specs.Said.{master_of};
 ghost use Rattle.controller.specs.Work.{read, with_room, WorksInto};
-ghost use Rattle.storage.specs.Fetching.{Fetches};
 
 use super::receiving::open_read;
 use super::transfer::Reading;
@@ -42,7 +41,7 @@ fn receive_all<P: Part>(
 }
 
 // Appends the bytes read to the row. A refusal leaves the row as it was, and one for want of room gives no sample.
-#[tactic(auto, using(board::proofs::Splices::sampled_same, crate::proofs::Working::no_room_works, crate::proofs::FetchingBack::no_room_fetches))]
+#[tactic(auto, using(crate::proofs::Sampling::no_room_sampled, crate::proofs::Working::no_room_works))]
 pub fn read<P: Part>(
     board: &mut Board<P>,
     lines: &Levels,
@@ -51,8 +50,7 @@ pub fn read<P: Part>(
 ) -> Result<(), Refusal>
     ensures run { Into (run P.Part.ops (master_of lines.now (room_of row.old) (shown_read job.now)) board.old) board.new row.old row.new (told (λ x. x) result) }
     ensures work { WorksInto (with_room job.now.count (room_of row.old) (read P.Part.ops lines.now job.now.address job.now.aim.now job.now.count)) board.old board.new row.old row.new (told (λ x. x) result) }
-    ensures fetches { nat_le job.now.count (room_of row.old) ≡ true → Fetches P.Part.ops lines.now job.now.address job.now.aim.now job.now.count board.old }
-    ensures sampled { Sampled P.Part.ops board.old board.new }
+    ensures sampled { SampledBy P.Part.ops board.old (samples_of P.Part.ops (master_of lines.now (room_of row.old) (shown_read job.now)) board.old) board.new }
     ensures count { Lasts job.now.count (run P.Part.ops (master_of lines.now (room_of row.old) (shown_read job.now)) board.old).1 }
     ensures lender { row.new.items.ghost_name ≡ row.old.items.ghost_name }
 {

@@ -2,7 +2,7 @@
 ghost use Rattle.std.specs.Prelude.{◌≡◌, []};
 ghost use Rattle.refusals.specs.Told.{told};
 ghost use Rattle.controller.specs.Master.{run};
-ghost use Rattle.storage.specs.Cells.{AllBytes};
+ghost use Rattle.controller.specs.Bytes.{AllBytes};
 ghost use Rattle.controller.specs.Jobs.{addressing, stop_refused, end_refused};
 
 use super::sending::open_write;

@@ -2,9 +2,9 @@
 ghost use Rattle.std.specs.Prelude.{◌≡◌, [], ◌∷◌};
 ghost use Rattle.refusals.specs.Told.{ok};
 ghost use Rattle.board.specs.Clocks.{clocks, Frees};
-ghost use Rattle.board.specs.Runs.{Sampled};
+ghost use Rattle.board.specs.Runs.{SampledBy};
 ghost use Rattle.controller.specs.Bytes.{clock};
-ghost use Rattle.controller.specs.Master.{run};
+ghost use Rattle.controller.specs.Master.{run, samples_of};
 ghost use Rattle.controller.specs.Recovery.{release, recovering, Recovers};
 
 use super::wires;
@@ -47,7 +47,7 @@ fn release<P: Part>(board: &mut Board<P>, levels: &Levels)
 #[tactic(auto, using(crate::proofs::Recovering::recovery, crate::proofs::Recovering::recovery_sampled))]
 pub fn recover<P: Part>(board: &mut Board<P>, lines: &Levels) -> u8
     ensures run { run P.Part.ops (recovering lines.now) board.old ≡ (board.new, ok (result ∷ [])) }
-    ensures sampled { Sampled P.Part.ops board.old board.new }
+    ensures sampled { SampledBy P.Part.ops board.old (samples_of P.Part.ops (recovering lines.now) board.old) board.new }
     ensures recovers { Recovers P.Part.ops lines.now result board.old board.new }
 {
     let clocks = free(board, lines);

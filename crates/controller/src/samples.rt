@@ -2,10 +2,10 @@
 ghost use Rattle.std.specs.Prelude.{◌≡◌, ℕ, ◌+◌, ◌<◌, ◌≤◌, true, List, [], length};
 ghost use Rattle.refusals.specs.Told.{ok, told};
 ghost use Rattle.rows.specs.Rows.{items_of, row_of, room_of, first_with, Grown};
-ghost use Rattle.board.specs.Runs.{Sampled};
+ghost use Rattle.board.specs.Runs.{SampledBy};
 ghost use Rattle.board.specs.Samples.{bit_value};
 ghost use Rattle.controller.specs.Answers.{Into, Lasts};
-ghost use Rattle.controller.specs.Master.{run, gives, ended};
+ghost use Rattle.controller.specs.Master.{run, samples_of, gives, ended};
 ghost use Rattle.controller.specs.Jobs.{giving, all_samples, sampling};
 
 use board::board::Board;
@@ -41,14 +41,14 @@ fn give_all<P: Part>(board: &mut Board<P>, samples: &[u8], row: &mut Row<'_, u8>
 }
 
 // Appends the level that each sample answered to the row, 1 for HIGH. A refusal gives no sample and leaves the row as it was.
-#[tactic(auto, using(board::proofs::Splices::sampled_same))]
+#[tactic(auto, using(crate::proofs::Sampling::none_sampled))]
 pub fn samples<P: Part>(
     board: &mut Board<P>,
     job: &Samples<'_>,
     row: &mut Row<'_, u8>,
 ) -> Result<(), Refusal>
     ensures run { Into (run P.Part.ops (sampling job.now.bytes.now (room_of row.old)) board.old) board.new row.old row.new (told (λ x. x) result) }
-    ensures sampled { Sampled P.Part.ops board.old board.new }
+    ensures sampled { SampledBy P.Part.ops board.old (samples_of P.Part.ops (sampling job.now.bytes.now (room_of row.old)) board.old) board.new }
     ensures count { Lasts (length job.now.bytes.now) (run P.Part.ops (sampling job.now.bytes.now (room_of row.old)) board.old).1 }
     ensures lender { row.new.items.ghost_name ≡ row.old.items.ghost_name }
 {

@@ -2,7 +2,7 @@
 ghost use Rattle.std.specs.Prelude.{◌≡◌, ◌+◌, ◌^◌, ◌<◌, [], length};
 ghost use Rattle.refusals.specs.Told.{told};
 ghost use Rattle.controller.specs.Master.{run};
-ghost use Rattle.storage.specs.Cells.{AllBytes};
+ghost use Rattle.controller.specs.Bytes.{AllBytes};
 ghost use Rattle.controller.specs.Jobs.{send_all, sending, writing, lowered};
 ghost use Rattle.controller.specs.Transfers.{Sent};
 

@@ -5,7 +5,8 @@
 // while a transfer is open: its state must go on.
 ghost use Rattle.std.specs.Prelude.{◌≡◌, []};
 ghost use Rattle.refusals.specs.Told.{told};
-ghost use Rattle.controller.specs.Master.{run};
+ghost use Rattle.board.specs.Runs.{SampledBy};
+ghost use Rattle.controller.specs.Master.{run, samples_of};
 ghost use Rattle.controller.specs.Bytes.{stop, receive};
 ghost use Rattle.controller.specs.Jobs.{send_one, open_with, write_byte, read_byte};
 ghost use Rattle.controller.specs.Transfers.{counted};
@@ -64,6 +65,7 @@ impl Quiet {
     }
 
     // START and the write address.
+    #[tactic(auto, using(crate::proofs::Sampling::job_sampled, crate::proofs::Sampling::run_sampled))]
     pub fn write<P: Part>(
         self,
         board: &mut Board<P>,
@@ -71,6 +73,7 @@ impl Quiet {
         address: u8,
     ) -> (Writing, Result<(), Refusal>)
         ensures run { run P.Part.ops (open_with levels.now self.sent (write_byte address)) board.old ≡ (board.new, told (λ _. []) result.1) }
+        ensures sampled { SampledBy P.Part.ops board.old (samples_of P.Part.ops (open_with levels.now self.sent (write_byte address)) board.old) board.new }
         ensures count { result.0.sent ≡ counted self.sent }
     {
         let Quiet { sent } = self;
@@ -80,6 +83,7 @@ impl Quiet {
     }
 
     // START and the read address.
+    #[tactic(auto, using(crate::proofs::Sampling::job_sampled, crate::proofs::Sampling::run_sampled))]
     pub fn read<P: Part>(
         self,
         board: &mut Board<P>,
@@ -87,6 +91,7 @@ impl Quiet {
         address: u8,
     ) -> (Reading, Result<(), Refusal>)
         ensures run { run P.Part.ops (open_with levels.now self.sent (read_byte address)) board.old ≡ (board.new, told (λ _. []) result.1) }
+        ensures sampled { SampledBy P.Part.ops board.old (samples_of P.Part.ops (open_with levels.now self.sent (read_byte address)) board.old) board.new }
         ensures count { result.0.sent ≡ counted self.sent }
     {
         let Quiet { sent: before } = self;
@@ -105,6 +110,7 @@ impl Quiet {
 }
 
 impl Writing {
+    #[tactic(auto, using(crate::proofs::Sampling::job_sampled, crate::proofs::Sampling::run_sampled))]
     pub fn send<P: Part>(
         self,
         board: &mut Board<P>,
@@ -112,6 +118,7 @@ impl Writing {
         byte: u8,
     ) -> (Writing, Result<(), Refusal>)
         ensures run { run P.Part.ops (send_one levels.now self.sent byte) board.old ≡ (board.new, told (λ _. []) result.1) }
+        ensures sampled { SampledBy P.Part.ops board.old (samples_of P.Part.ops (send_one levels.now self.sent byte) board.old) board.new }
         ensures count { result.0.sent ≡ counted self.sent }
     {
         let Writing { sent } = self;
@@ -121,6 +128,7 @@ impl Writing {
     }
 
     // A repeated START and the read address.
+    #[tactic(auto, using(crate::proofs::Sampling::job_sampled, crate::proofs::Sampling::run_sampled))]
     pub fn read<P: Part>(
         self,
         board: &mut Board<P>,
@@ -128,6 +136,7 @@ impl Writing {
         address: u8,
     ) -> (Reading, Result<(), Refusal>)
         ensures run { run P.Part.ops (open_with levels.now self.sent (read_byte address)) board.old ≡ (board.new, told (λ _. []) result.1) }
+        ensures sampled { SampledBy P.Part.ops board.old (samples_of P.Part.ops (open_with levels.now self.sent (read_byte address)) board.old) board.new }
         ensures count { result.0.sent ≡ counted self.sent }
     {
         let Writing { sent } = self;
@@ -136,8 +145,10 @@ impl Writing {
         (Reading { sent }, result)
     }
 
+    #[tactic(auto, using(crate::proofs::Sampling::job_sampled, crate::proofs::Sampling::run_sampled))]
     pub fn stop<P: Part>(self, board: &mut Board<P>, levels: &Levels) -> Quiet
         ensures run { (run P.Part.ops (stop levels.now) board.old).0 ≡ board.new }
+        ensures sampled { SampledBy P.Part.ops board.old (samples_of P.Part.ops (stop levels.now) board.old) board.new }
         ensures count { result.sent ≡ self.sent }
     {
         let Writing { sent } = self;
@@ -148,6 +159,7 @@ impl Writing {
 
 impl Reading {
     // A byte, with an ACK where more is wanted.
+    #[tactic(auto, using(crate::proofs::Sampling::job_sampled, crate::proofs::Sampling::run_sampled))]
     pub fn receive<P: Part>(
         self,
         board: &mut Board<P>,
@@ -155,6 +167,7 @@ impl Reading {
         more: bool,
     ) -> (Reading, u8)
         ensures run { run P.Part.ops (receive levels.now more) board.old ≡ (board.new, result.1) }
+        ensures sampled { SampledBy P.Part.ops board.old (samples_of P.Part.ops (receive levels.now more) board.old) board.new }
         ensures count { result.0.sent ≡ self.sent }
     {
         let Reading { sent } = self;
@@ -162,8 +175,10 @@ impl Reading {
         (Reading { sent }, byte)
     }
 
+    #[tactic(auto, using(crate::proofs::Sampling::job_sampled, crate::proofs::Sampling::run_sampled))]
     pub fn stop<P: Part>(self, board: &mut Board<P>, levels: &Levels) -> Quiet
         ensures run { (run P.Part.ops (stop levels.now) board.old).0 ≡ board.new }
+        ensures sampled { SampledBy P.Part.ops board.old (samples_of P.Part.ops (stop levels.now) board.old) board.new }
         ensures count { result.sent ≡ self.sent }
     {
         let Reading { sent: asked } = self;

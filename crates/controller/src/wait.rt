@@ -1,9 +1,9 @@
 // The wait job.
 ghost use Rattle.std.specs.Prelude.{◌≡◌, []};
 ghost use Rattle.refusals.specs.Told.{told};
-ghost use Rattle.board.specs.Runs.{Sampled};
+ghost use Rattle.board.specs.Runs.{SampledBy};
 ghost use Rattle.jobfile.specs.Said.{shown_wait};
-ghost use Rattle.controller.specs.Master.{run};
+ghost use Rattle.controller.specs.Master.{run, samples_of};
 ghost use Rattle.controller.specs.Notes.{after_wait};
 ghost use Rattle.controller.specs.Said.{master_of};
 ghost use Rattle.controller.specs.Jobs.{lowered};
@@ -26,7 +26,7 @@ pub fn wait<P: Part>(
 ) -> (Option<Note>, Result<(), Refusal>)
     ensures run { run P.Part.ops (master_of lines.old 0 (shown_wait job.now)) board.old ≡ (board.new, told (λ _. []) result.1) }
     ensures work { Works (polled P.Part.ops (lowered lines.old) job.now.address job.now.polls) board.old board.new (told (λ _. []) result.1) }
-    ensures sampled { Sampled P.Part.ops board.old board.new }
+    ensures sampled { SampledBy P.Part.ops board.old (samples_of P.Part.ops (master_of lines.old 0 (shown_wait job.now)) board.old) board.new }
     ensures lines { lines.new ≡ lines.old }
     ensures note { result.0 ≡ after_wait job.now.address (told (λ _. []) result.1) note }
 {

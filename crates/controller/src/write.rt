@@ -1,14 +1,13 @@
 // The write job.
 ghost use Rattle.std.specs.Prelude.{◌≡◌, []};
 ghost use Rattle.refusals.specs.Told.{told};
-ghost use Rattle.board.specs.Runs.{Sampled};
+ghost use Rattle.board.specs.Runs.{SampledBy};
 ghost use Rattle.jobfile.specs.Said.{shown_write};
-ghost use Rattle.controller.specs.Master.{run};
+ghost use Rattle.controller.specs.Master.{run, samples_of};
 ghost use Rattle.controller.specs.Notes.{Noted};
 ghost use Rattle.controller.specs.Said.{master_of};
 ghost use Rattle.controller.specs.Jobs.{lowered};
 ghost use Rattle.controller.specs.Work.{written, Works};
-ghost use Rattle.storage.specs.Storing.{BringsBack};
 
 use super::note::Note;
 use super::sending::write_low;
@@ -19,7 +18,7 @@ use part::levels::Levels;
 use refusals::Refusal;
 
 // An accepted write gives a note that its part may be busy. WP is LOW in the transfer and stands as before at the end.
-#[tactic(auto, using(crate::proofs::Working::write_works, crate::proofs::BringingBack::brings_back))]
+#[tactic(auto, using(crate::proofs::Working::write_works, crate::proofs::Sampling::job_sampled))]
 pub fn write<P: Part>(
     board: &mut Board<P>,
     lines: &mut Levels,
@@ -27,8 +26,7 @@ pub fn write<P: Part>(
 ) -> Result<Note, Refusal>
     ensures run { run P.Part.ops (master_of lines.old 0 (shown_write job.now)) board.old ≡ (board.new, told (λ _. []) result) }
     ensures work { Works (written P.Part.ops (lowered lines.old) job.now.address job.now.bytes.now) board.old board.new (told (λ _. []) result) }
-    ensures brings_back { BringsBack P.Part.ops (lowered lines.old) job.now.address job.now.bytes.now board.old board.new (told (λ _. []) result) }
-    ensures sampled { Sampled P.Part.ops board.old board.new }
+    ensures sampled { SampledBy P.Part.ops board.old (samples_of P.Part.ops (master_of lines.old 0 (shown_write job.now)) board.old) board.new }
     ensures lines { lines.new ≡ lines.old }
     ensures note { Noted job.now.address result }
 {

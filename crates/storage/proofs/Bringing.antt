@@ -8,7 +8,7 @@ use Rattle.part.specs.declared.levels.Levels.{Levels}
 use Rattle.part.specs.declared.power.PowerCut.{PowerCut}
 use Rattle.board.specs.Engine.{idle, idle_bus, finished, cut}
 use Rattle.board.specs.declared.board.Board.{Board}
-use Rattle.storage.specs.Cells.{AllBytes}
+use Rattle.controller.specs.Bytes.{AllBytes}
 use Rattle.controller.specs.Jobs.{writing, reading}
 use Rattle.controller.specs.Master.{run}
 use Rattle.storage.specs.Storing.{Brings}

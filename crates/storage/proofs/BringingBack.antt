@@ -17,7 +17,8 @@ use Rattle.x9520.specs.Sound.{Sound}
 use Rattle.x9520.specs.declared.state.X9520.{X9520}
 use Rattle.board.specs.Engine.{idle_bus, finished, cut}
 use Rattle.board.specs.declared.board.Board.{Board}
-use Rattle.storage.specs.Cells.{AllBytes, Last, Stands}
+use Rattle.storage.specs.Cells.{Last, Stands}
+use Rattle.controller.specs.Bytes.{AllBytes}
 use Rattle.controller.specs.Jobs.{writing}
 use Rattle.controller.specs.Master.{run}
 use Rattle.storage.specs.Storing.{BringsCells, HoldsCells, BringsTap, Ds1846Stores, MemoryStores, WiperStores, RegisterStores, Enables, Stores, BringsBack, dcp_byte, taps_of, Means}

@@ -18,7 +18,7 @@ use Rattle.x9520.specs.declared.state.Mode.TheVariants.{Idle, Aiming, MemoryByte
 use Rattle.x9520.specs.declared.state.X9520.{X9520}
 use Rattle.board.specs.Engine.{idle_bus}
 use Rattle.board.specs.declared.board.Board.{Board}
-use Rattle.storage.specs.Cells.{AllBytes}
+use Rattle.controller.specs.Bytes.{AllBytes}
 use Rattle.storage.specs.Fetching.{KeepsBytes, after_read, FetchesCells, Ds1846Fetches, X9520Fetches, Fetches}
 use Rattle.controller.specs.Jobs.{reading, write_byte, read_byte}
 use Rattle.controller.specs.Master.{run}

@@ -20,7 +20,3 @@ Missed page a ds i = (n : ℕ) → n < length ds → falls_on page a n ≢ i
 -- v stands in cell i, where b stood before
 abbrev pub Stands : ℕ → ℕ → List ℕ → ℕ → ℕ → ℕ → Type 0
 Stands page a ds i b v = Last page a ds i v ⊎ (Missed page a ds i × (v ≡ b))
-
--- each of a list is a byte
-abbrev pub AllBytes : List ℕ → Type 0
-AllBytes xs = (i : ℕ) → slice_index_or xs i 0 < 256

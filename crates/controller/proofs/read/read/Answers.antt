@@ -3,10 +3,9 @@ use Rattle.std.proofs.lemmas.Result.{err_from_is_err_and}
 use Rattle.refusals.specs.Told.{Told, ok, refused, told}
 use Rattle.rows.specs.Rows.{room_of}
 use Rattle.controller.specs.Answers.{Into}
-use Rattle.storage.specs.Cells.{AllBytes}
+use Rattle.controller.specs.Bytes.{AllBytes}
 use Rattle.controller.specs.Master.{Master, run}
 use Rattle.controller.specs.Jobs.{receive_all, reading, with_room}
-use Rattle.storage.proofs.FetchingBack.{fetches}
 use Rattle.controller.proofs.Receives.{reads_all, reads_refused, same_address, roomy_run, into, lasts}
 use Rattle.controller.proofs.Sampling.{job_sampled}
 use Rattle.controller.proofs.Working.{read_works}
@@ -28,8 +27,6 @@ returns-in_err-reading g c =
       run = done;
       work = read_works g.P.Part.ops g.met.P.Part.keeps c.args.lines.now c.args.job.now.address (room_of c.args.row.now) c.args.job.now.aim.now c.args.job.now.count
           c.args.board.now _ c.args.row.now c.args.row.now _ (subst AllBytes c.aim.ensures.value c.in_err-reading.ensures.bytes) one done;
-      fetches = λ fits. fetches g.P.Part.ops g.met.P.Part.keeps c.args.lines.now c.args.job.now.address c.args.job.now.aim.now c.args.job.now.count c.args.board.now
-          (subst AllBytes c.aim.ensures.value c.in_err-reading.ensures.bytes);
       sampled = job_sampled g.P.Part.ops job c.args.board.now _ _ ran;
       count = lasts _ _ _ (refused _ _) ran tt;
       lender = refl;
@@ -52,8 +49,6 @@ returns g c =
       run = done;
       work = read_works g.P.Part.ops g.met.P.Part.keeps c.args.lines.now c.args.job.now.address (room_of c.args.row.now) c.args.job.now.aim.now c.args.job.now.count
           c.args.board.now _ c.args.row.now c.receive_all-reading.new.row _ (subst AllBytes c.aim.ensures.value c.in_ok-reading.ensures.bytes) one done;
-      fetches = λ fits. fetches g.P.Part.ops g.met.P.Part.keeps c.args.lines.now c.args.job.now.address c.args.job.now.aim.now c.args.job.now.count c.args.board.now
-          (subst AllBytes c.aim.ensures.value c.in_ok-reading.ensures.bytes);
       sampled = job_sampled g.P.Part.ops job c.args.board.now _ _ ran;
       count = lasts _ _ _ (ok got) ran (c.receive_all-reading.ensures.run.1 ∙ c.count-2.ensures.value);
       lender = c.receive_all-reading.ensures.lender;

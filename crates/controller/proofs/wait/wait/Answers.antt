@@ -1,13 +1,17 @@
 use Rattle.controller.specs.Jobs.{waiting, lowered}
-use Rattle.controller.proofs.Sampling.{job_sampled}
+use Rattle.controller.proofs.Sampling.{same_sampled}
 use Rattle.controller.proofs.Working.{wait_works}
 use Rattle.controller.proofs.wait.wait.Goals as goal
 
 pub returns-then-is_ok-clause-sampled : goal.returns-then-is_ok-clause-sampled
-returns-then-is_ok-clause-sampled g c = job_sampled g.P.Part.ops (waiting (lowered c.args.lines.now) c.address.result c.polls.result) c.args.board.now _ _ c.poll-answer.ensures.run
+returns-then-is_ok-clause-sampled g c =
+    same_sampled g.P.Part.ops (waiting (lowered c.args.lines.now) c.address.result c.polls.result) _ c.args.board.now _ _
+    (λ i. waiting (lowered c.args.lines.now) (c.address.ensures.value i) (c.polls.ensures.value i)) c.poll-answer.ensures.run
 
 pub returns-else-is_ok-clause-sampled : goal.returns-else-is_ok-clause-sampled
-returns-else-is_ok-clause-sampled g c = job_sampled g.P.Part.ops (waiting (lowered c.args.lines.now) c.address.result c.polls.result) c.args.board.now _ _ c.poll-answer.ensures.run
+returns-else-is_ok-clause-sampled g c =
+    same_sampled g.P.Part.ops (waiting (lowered c.args.lines.now) c.address.result c.polls.result) _ c.args.board.now _ _
+    (λ i. waiting (lowered c.args.lines.now) (c.address.ensures.value i) (c.polls.ensures.value i)) c.poll-answer.ensures.run
 
 pub returns-then-is_ok-clause-work : goal.returns-then-is_ok-clause-work
 returns-then-is_ok-clause-work g c =

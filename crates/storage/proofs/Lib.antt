@@ -1,0 +1,14 @@
+pub mod Accepting
+pub mod Bringing
+pub mod BringingBack
+pub mod Ds1846Storing
+pub mod FetchingBack
+pub mod Filling
+pub mod Giving
+pub mod MemoryStoring
+pub mod Over
+pub mod RegisterStoring
+pub mod Sitting
+pub mod SoundBoard
+pub mod WiperReading
+pub mod WiperStoring
