@@ -7,7 +7,7 @@ use Rattle.part.specs.declared.levels.Levels.{Levels}
 use Rattle.part.specs.Ops.{Ops}
 use Rattle.part.specs.Keeps.{Keeps, Fixed, Fades}
 use Rattle.part.specs.Moves.{Move, giving as giving_byte, moved, after}
-use Rattle.board.specs.Samples.{odd, levels}
+use Rattle.board.specs.Samples.{odd}
 use Rattle.board.specs.Wires.{rose, fell, edge, Byte, Transfer, transfer, value, next, rising, address, reading, all_acked, acked_by, sending, giving, values, carried}
 use Rattle.board.specs.Runs.{pulls_by, told, offered, answer_after}
 use Rattle.board.specs.Cause.{Among}

@@ -7,7 +7,7 @@ use Rattle.std.specs.Option.{unwrap_or}
 use Rattle.part.specs.declared.levels.Levels.{Levels}
 use Rattle.part.specs.declared.power.PowerCut.{PowerCut}
 use Rattle.part.specs.Ops.{Ops}
-use Rattle.part.specs.Keeps.{Keeps, Fixed, Stored, Fades, Stops, Finishes, Cuts, Marked}
+use Rattle.part.specs.Keeps.{Keeps, Stored, Finishes, Cuts}
 use Rattle.part.specs.Moves.{Move, moved, after}
 use Rattle.board.specs.declared.board.Board.{Board}
 use Rattle.board.specs.declared.call.Call.{Call}
@@ -15,7 +15,7 @@ use Rattle.board.specs.declared.call.Call.TheVariants.{Sample, Finish, Cut}
 use Rattle.board.specs.declared.bus.Phase.TheVariants.{Closed}
 use Rattle.board.specs.Engine.{numbered}
 use Rattle.board.specs.Samples.{levels}
-use Rattle.board.specs.Wires.{Edge, steady, started, stopped, rose, fell, edge, next, Byte, Transfer, transfer, value, reading, all_acked, acked_by, sending, giving, some_byte, address, is_clean, clean, values, carried}
+use Rattle.board.specs.Wires.{Edge, steady, started, stopped, rose, fell, edge, next, Byte, Transfer, value, reading, all_acked, acked_by, address, is_clean, clean, values, carried}
 use Rattle.board.specs.Runs.{History, pulls_by, told, offered, edge_of, onward, state, history}
 use Rattle.board.specs.Cause.{Among, EachPulled, Writes, Written, Caused}
 use Rattle.board.proofs.Running.{Advances, advances, good}

@@ -12,7 +12,7 @@ use Rattle.board.specs.declared.call.Call.TheVariants.{Sample, Finish, Cut}
 use Rattle.board.specs.declared.bus.Kind.TheVariants.{Address}
 use Rattle.board.specs.declared.bus.Phase.{Phase}
 use Rattle.board.specs.declared.bus.Phase.TheVariants.{Closed, Taking}
-use Rattle.board.specs.Engine.{no_bits, addressed, bit_taken, rise_at, fall_at, lower, act, level, with_levels, with_sample, sampled, finish_by, numbered}
+use Rattle.board.specs.Engine.{no_bits, addressed, bit_taken, rise_at, fall_at, lower, act, level, with_levels, with_sample, finish_by, numbered}
 use Rattle.board.specs.Samples.{bit_value, odd, levels}
 use Rattle.board.specs.Wires.{Edge, steady, started, stopped, rose, fell, edge, value, Transfer, clean}
 use Rattle.board.specs.Runs.{History, IsCut, told, step, state, history, edge_of, edge_at}

@@ -1,9 +1,9 @@
 -- Runs of calls and of samples, one after another. Assumes nothing.
-use Rattle.std.proofs.Common.{◌≡◌, ℕ, zero, suc, ◌+◌, ◌<◌, ◌≤◌, List, [], ◌∷◌, ◌++◌, length, refl, sym, ap, ◌∙◌, subst, arith}
+use Rattle.std.proofs.Common.{◌≡◌, ℕ, zero, suc, ◌+◌, ◌<◌, ◌≤◌, List, [], ◌∷◌, ◌++◌, length, refl, sym, ap, ◌∙◌, arith}
 use Rattle.part.specs.Ops.{Ops}
 use Rattle.board.specs.declared.board.Board.{Board}
 use Rattle.board.specs.declared.call.Call.{Call}
-use Rattle.board.specs.Runs.{step, state, call_at, Reaches, Leads, Joins, GoesOn}
+use Rattle.board.specs.Runs.{step, state, call_at, Reaches, Leads, GoesOn}
 use Rattle.board.specs.Answers.{after_all}
 use Rattle.board.proofs.Calls.{after_state}
 
@@ -42,13 +42,15 @@ module _ {S : Type 0} (ops : Ops S) where
   goes_on made calls n next =
       let whole = joined calls n next in
       let before : (j : ℕ) → j ≤ n → state ops made whole j ≡ state ops made calls j =
-      λ j h. state_same made whole calls j (λ i lt. joined_first calls n next i (omega (arith, h, lt))) in
-      (whole, record {
-        first = joined_first calls n next;
-        rest = joined_rest calls n next;
-        before = before;
-        after = λ j. state_rest made whole next n (joined_rest calls n next) j ∙ ap (λ c. state ops c next j) (before n (omega arith));
-      })
+      λ j h. state_same made whole calls j (λ i lt. joined_first calls n next i (omega (arith, h, lt))) in (
+        whole,
+        record {
+          first = joined_first calls n next;
+          rest = joined_rest calls n next;
+          before = before;
+          after = λ j. state_rest made whole next n (joined_rest calls n next) j ∙ ap (λ c. state ops c next j) (before n (omega arith));
+        },
+      )
 
   -- lists of calls, one after another
   pub after_reaches : (b : Board S) (calls : List Call) → Reaches ops b (after_all ops b calls)

@@ -1,5 +1,5 @@
 -- What calls answer and what board they leave: one call, and a list of them, one after another.
-use Rattle.std.specs.Prelude.{◌≡◌, ℕ, Bool, true, false, List, [], ◌∷◌, length, map, Some, None, Option, nat_le}
+use Rattle.std.specs.Prelude.{◌≡◌, ℕ, Bool, true, false, List, [], ◌∷◌, map, Some, None, Option, nat_le}
 use Rattle.refusals.specs.Told.{Told, ok, refused, number, place, and_then}
 use Rattle.rows.specs.declared.row.Row.{Row}
 use Rattle.rows.specs.Rows.{room_of, Grown}

@@ -1,7 +1,7 @@
 -- What the law says that a register byte locks and that WP forbids is what the chip goes by. Assumes nothing.
-use Rattle.std.proofs.Common.{◌≡◌, ℕ, ◌/◌, ◌%◌, ◌<◌, ◌≤◌, Bool, true, false, cond, not, ◌&&◌, ◌||◌, eqb, ltb, leb, ◌⊎◌, refl, sym, ap, ◌∙◌, inl, inr, arith}
+use Rattle.std.proofs.Common.{◌≡◌, ℕ, ◌/◌, ◌%◌, Bool, true, false, cond, ◌&&◌, ◌||◌, ltb, leb, ◌⊎◌, refl, ap, ◌∙◌, inl, inr, arith}
 use Rattle.std.proofs.lemmas.Bool.{cases_eq, cases_lt, eq-eqb, ne_eqb, lt-ltb, le-ltb, le-leb, lt-leb, and_from, and_left, and_right, or_right, or_from}
-use Rattle.protection.specs.Lock.{lock_bits, locks_memory, locks_wipers as wipers_in_chip, wp_forbids}
+use Rattle.protection.specs.Lock.{lock_bits, locks_wipers as wipers_in_chip, wp_forbids}
 use Rattle.x9520.specs.Locks.{locks}
 use Rattle.runs.specs.Lock.{bl1, bl0, stored_wiper, locks_cell, locks_wipers, forbidden}
 
@@ -49,11 +49,11 @@ place i = elim (cases_lt i 256) [
   | inl h ↦ inl (record { below = lt-ltb i 256 h; last = le-leb i 255 (omega (arith, h)); stored = and_left _ _ (lt-leb 256 i (omega (arith, h))); under = lt-ltb i 259 (omega (arith, h)) })
   | inr g ↦ elim (cases_lt i 259) [
     | inl h ↦ inr (inl (record {
-        below = le-ltb i 256 g;
-        last = lt-leb i 255 (omega (arith, g));
-        stored = and_from _ _ (le-leb 256 i g) (le-leb i 258 (omega (arith, h)));
-        under = lt-ltb i 259 h;
-      }))
+      below = le-ltb i 256 g;
+      last = lt-leb i 255 (omega (arith, g));
+      stored = and_from _ _ (le-leb 256 i g) (le-leb i 258 (omega (arith, h)));
+      under = lt-ltb i 259 h;
+    }))
     | inr h ↦ inr (inr (record { below = le-ltb i 256 g; last = lt-leb i 255 (omega (arith, g)); stored = and_right _ _ (lt-leb i 258 (omega (arith, h))); under = le-ltb i 259 h }))
   ]
 ]

@@ -1,5 +1,5 @@
 -- The law of runs, put together. Assumes nothing.
-use Rattle.std.proofs.Common.{◌≡◌, refl, sym, subst}
+use Rattle.std.proofs.Common.{◌≡◌, sym, subst}
 use Rattle.part.specs.Ops.{Ops}
 use Rattle.part.specs.Keeps.{Keeps}
 use Rattle.board.specs.declared.board.Board.{Board}

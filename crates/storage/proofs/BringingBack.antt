@@ -1,5 +1,5 @@
 -- What a write job stores, later jobs bring back: of a DS1846, and of memory, wipers and register of an X9520.
-use Rattle.std.proofs.Common.{◌≡◌, ℕ, suc, ◌+◌, ◌%◌, ◌<◌, Bool, true, false, ◌⊎◌, List, [], ◌∷◌, Some, sym, ap, ◌∙◌, subst, inl, inr, arith, min, lit<}
+use Rattle.std.proofs.Common.{◌≡◌, ℕ, suc, ◌+◌, ◌%◌, ◌<◌, Bool, true, false, ◌⊎◌, List, [], ◌∷◌, Some, refl, sym, ap, ◌∙◌, subst, inl, inr, arith, min, lit<}
 use Rattle.refusals.specs.Told.{Told}
 use Rattle.part.specs.Keeps.{Keeps}
 use Rattle.part.specs.Ops.{Ops}
@@ -237,7 +237,9 @@ module _ {S : Type 0} {ops : Ops S} (b c : Board S) (answer : Told (List ℕ)) (
       at : {m : ℕ} {ys : List ℕ} → a ≡ m → xs ≡ ys → run ops (writing l m ys) b ≡ (c, answer)
       at p q = (λ i. run ops (writing l (sym p i) (sym q i)) b) ∙ ran
 
-pub brings_back : {S : Type 0} (ops : Ops S) (keeps : Keeps ops) (l : Levels) (b c : Board S) (answer : Told (List ℕ)) (a : ℕ) (xs : List ℕ) → l.wp ≡ false → AllBytes xs →
-    run ops (writing l a xs) b ≡ (c, answer) → BringsBack ops l a xs b c answer
+both_parts : {A B : Type 0} (w : A × B) → w ≡ (w.0, w.1)
+both_parts (a, b) = refl
+
+pub every_write : {S : Type 0} (ops : Ops S) → Keeps ops → BringsBack ops
 unfolding BringsBack
-brings_back ops keeps l b c answer a xs low small ran idle_b = stores b c answer l low idle_b keeps a xs small ran
+every_write ops keeps l a xs b low small idle_b = stores b (run ops (writing l a xs) b).0 (run ops (writing l a xs) b).1 l low idle_b keeps a xs small (both_parts (run ops (writing l a xs) b))

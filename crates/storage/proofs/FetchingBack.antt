@@ -1,7 +1,6 @@
 -- What a read job does to the part, from idle wires, and what it brings from a DS1846 and from an X9520.
-use Rattle.std.proofs.Common.{◌≡◌, ℕ, zero, suc, ◌+◌, ◌%◌, ◌<◌, ◌≤◌, Bool, true, false, leb, ◌⊎◌, List, [], ◌∷◌, length, None, Option, sym, refl, ap, ◌∙◌, subst, inl, inr, arith}
+use Rattle.std.proofs.Common.{◌≡◌, ℕ, zero, suc, ◌+◌, ◌%◌, ◌<◌, ◌≤◌, Bool, true, false, ◌⊎◌, List, [], ◌∷◌, length, None, Option, sym, refl, ap, ◌∙◌, subst, inl, inr, arith}
 use borrow.Author.Tests.{clash}
-use Rattle.std.proofs.lemmas.Bool.{lt-leb}
 use Rattle.refusals.specs.Told.{Told, ok, refused}
 use Rattle.part.specs.Keeps.{Keeps}
 use Rattle.part.specs.Ops.{Ops}
@@ -229,15 +228,11 @@ module _ {S : Type 0} (ops : Ops S) (keeps : Keeps ops) (l : Levels) (a : ℕ) (
         latches = λ short. ap (λ s. s.latches) (see_after sits mine) ∙ read_leaves x9520 (λ s. s.latches) latches_left l a aim n (inr short) chip;
       }
 
-pub fetches : {S : Type 0} (ops : Ops S) (keeps : Keeps ops) (l : Levels) (a : ℕ) (aim : List ℕ) (n : ℕ) (b : Board S) → AllBytes aim → Fetches ops l a aim n b
+pub every_read : {S : Type 0} (ops : Ops S) → Keeps ops → Fetches ops
 unfolding Fetches
-fetches ops keeps l a aim n b small idle_b one few =
+every_read ops keeps l a aim n b small one few idle_b =
     record {
       keeps_bytes = keeps_bytes ops keeps l a aim n b (after_read ops l a aim n b) (part_is ops keeps l a aim n b small idle_b one few);
       ds1846 = λ number see direct mine. ds1846_fetches ops keeps l a aim n b small idle_b one few (sitting keeps direct) mine;
       x9520 = λ number see direct mine. x9520_fetches ops keeps l a aim n b small idle_b one few (sitting keeps direct) mine;
     }
-
--- the row has no room
-pub no_room_fetches : {S : Type 0} (ops : Ops S) (l : Levels) (a room : ℕ) (aim : List ℕ) (n : ℕ) (b : Board S) → room < n → leb n room ≡ true → Fetches ops l a aim n b
-no_room_fetches ops l a room aim n b h fits = absurd (clash (sym (lt-leb n room h) ∙ fits))

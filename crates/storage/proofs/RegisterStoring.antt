@@ -23,7 +23,7 @@ use Rattle.controller.specs.Work.{on_ack, done, closed, written, given, addresse
 use Rattle.storage.proofs.Accepting.{busy_refuses, free_if_accepted}
 use Rattle.storage.proofs.Giving.{Reads, reads_same}
 use Rattle.storage.proofs.Over.{over, free_under_way, over_cell, over_ready, over_rest}
-use Rattle.controller.proofs.Runs.{bit_small}
+use Rattle.board.proofs.Samples.{bit_small}
 
 -- a job that writes the byte x to the register
 abbrev register_job : Levels → ℕ → X9520 → X9520 × Told (List ℕ)

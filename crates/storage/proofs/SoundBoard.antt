@@ -4,6 +4,7 @@ use Rattle.part.specs.Keeps.{Keeps}
 use Rattle.part.specs.Moves.{Move, starting, moved, after}
 use Rattle.part.specs.Ops.{Ops}
 use Rattle.part.specs.Seats.{Seat}
+use Rattle.part.proofs.Seated.{own, reached}
 use Rattle.x9520.specs.Chip.{x9520}
 use Rattle.x9520.specs.Sound.{Sound}
 use Rattle.x9520.specs.State.{factory}
@@ -15,7 +16,6 @@ use Rattle.board.specs.declared.board.Board.{Board}
 use Rattle.board.specs.declared.bus.Phase.TheVariants.{Closed}
 use Rattle.board.specs.declared.call.Call.{Call}
 use Rattle.board.proofs.Running.{steps}
-use Rattle.runs.proofs.Seated.{own, reached}
 use Rattle.storage.specs.Storing.{Made}
 
 -- what makes it sound is kept by each of its moves
@@ -30,7 +30,7 @@ by_reached c d m (inr (inr e)) h = subst Standing (sym e) (step c starting h)
 module _ {S : Type 0} (ops : Ops S) (keeps : Keeps ops) (number : S → ℕ) (see : S → X9520) (seat : Seat ops x9520 number see) where
   -- each move of the part reaches the chip as one of its own, or leaves it untouched, or as after a START
   stands_move : (s : S) (m : Move) → Standing (see s) → Standing (see (moved ops s m))
-  stands_move s m = by_reached (see s) _ (own ops keeps number see seat m) (reached ops keeps number see seat s m)
+  stands_move s m = by_reached (see s) _ (own m) (reached ops x9520 number see seat s m)
 
   stands_after : (ms : List Move) (s : S) → Standing (see s) → Standing (see (after ops s ms))
   stands_after [] s h = h

@@ -11,6 +11,7 @@ use Rattle.x9520.specs.declared.state.X9520.{X9520}
 use Rattle.x9520.specs.Chip.{x9520}
 use Rattle.board.specs.declared.board.Board.{Board}
 use Rattle.board.specs.Engine.{idle_bus}
+use Rattle.controller.specs.Bytes.{AllBytes}
 use Rattle.controller.specs.Jobs.{reading}
 use Rattle.controller.specs.Master.{run}
 use Rattle.storage.specs.Storing.{Brings, Made, taps_of}
@@ -59,6 +60,6 @@ module _ {S : Type 0} (ops : Ops S) where
       pub x9520 : (number : S → ℕ) (see : S → X9520) → Direct ops x9520 number see → ops.owner b.part a ≡ Some (number b.part) →
           X9520Fetches (number b.part) (see b.part) (see after_read.part)
 
--- from idle wires
-unfoldable pub Fetches : {S : Type 0} → Ops S → Levels → ℕ → List ℕ → ℕ → Board S → Type 0
-Fetches ops l a aim n b = b.bus ≡ idle_bus → 1 ≤ n → a < 128 → FetchesFrom ops l a aim n b
+-- Of every read job of one byte or more, with any aim bytes, on every board with idle wires.
+unfoldable pub Fetches : {S : Type 0} → Ops S → Type 0
+Fetches {S} ops = (l : Levels) (a : ℕ) (aim : List ℕ) (n : ℕ) (b : Board S) → AllBytes aim → 1 ≤ n → a < 128 → b.bus ≡ idle_bus → FetchesFrom ops l a aim n b

@@ -17,6 +17,7 @@ use Rattle.board.specs.declared.board.Board.{Board}
 use Rattle.board.specs.Engine.{idle, idle_bus, finished, cut}
 use Rattle.board.specs.Runs.{Reaches}
 use Rattle.storage.specs.Cells.{Stands}
+use Rattle.controller.specs.Bytes.{AllBytes}
 use Rattle.controller.specs.Jobs.{writing, reading}
 use Rattle.controller.specs.Master.{run}
 
@@ -155,6 +156,7 @@ module _ {S : Type 0} (ops : Ops S) where
     pub enable : (number : S → ℕ) (see : S → X9520) → Direct ops x9520 number see → a ≡ 82 → ops.owner b.part 82 ≡ Some (number b.part) →
         xs ≡ 255 ∷ (2 ∷ []) → (see b.part).latches.rwel ≡ false → Enables b c answer (number b.part) (see c.part)
 
--- from idle wires
-unfoldable pub BringsBack : {S : Type 0} → Ops S → Levels → ℕ → List ℕ → Board S → Board S → Told (List ℕ) → Type 0
-BringsBack ops l a xs b c answer = b.bus ≡ idle_bus → Stores ops l a xs b c answer
+-- Of every write job with WP LOW, of any bytes, on every board with idle wires.
+unfoldable pub BringsBack : {S : Type 0} → Ops S → Type 0
+BringsBack {S} ops = (l : Levels) (a : ℕ) (xs : List ℕ) (b : Board S) → l.wp ≡ false → AllBytes xs → b.bus ≡ idle_bus →
+    Stores ops l a xs b (run ops (writing l a xs) b).0 (run ops (writing l a xs) b).1
