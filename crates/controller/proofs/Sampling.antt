@@ -12,7 +12,7 @@ use Rattle.controller.specs.Jobs.{giving, all_samples, sampling, with_room}
 use Rattle.controller.specs.Master.{Master, ended, gives, after_sample, reads, run, samples_of}
 
 module _ {S : Type 0} (ops : Ops S) where
-  after_samples : {A : Type 0} (m : Master A) (b : Board S) → (run ops m b).0 ≡ after_all ops b (map (λ x. Sample x) (samples_of ops m b))
+  pub after_samples : {A : Type 0} (m : Master A) (b : Board S) → (run ops m b).0 ≡ after_all ops b (map (λ x. Sample x) (samples_of ops m b))
   unfolding after_sample
   after_samples (ended a) b = refl
   after_samples (gives x k) b = after_samples (k (reads ops b x)) (after_sample ops b x)

@@ -1,5 +1,5 @@
 pub mod Answering
+pub mod Calling
 pub mod Hexes
 pub mod Listing
 pub mod Progress
-pub mod Reaching

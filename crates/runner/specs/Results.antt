@@ -3,13 +3,16 @@ use Rattle.std.specs.Prelude.{◌≡◌, ℕ, ◌+◌, ◌-◌, Bool, true, fals
 use Rattle.refusals.specs.Told.{Told, ok, refused}
 use Rattle.rows.specs.declared.row.Row.{Row}
 use Rattle.rows.specs.Rows.{Grown, items_of}
+use Rattle.part.specs.Ops.{Ops}
+use Rattle.part.specs.declared.levels.Levels.{Levels}
 use Rattle.board.specs.declared.board.Board.{Board}
+use Rattle.board.specs.declared.call.Call.{Call}
 use Rattle.runner.specs.declared.result.JobResult.{JobResult}
 use Rattle.runner.specs.declared.result.Done.{Done}
 use Rattle.runner.specs.declared.result.Refused.{Refused}
 use Rattle.jobfile.specs.FileJobs.{FileJob}
 use Rattle.runner.specs.Sizes.{all_answers}
-use Rattle.runner.specs.Runs.{all_bytes}
+use Rattle.runner.specs.Runs.{all_bytes, file_calls}
 
 -- what an outcome shows: where its bytes stand and how many there are, or the number of a refusal and its place
 pub data Seen : Type 0 where
@@ -56,6 +59,11 @@ fits jobs results bytes =
 pub record Filed (answers : List (Told (List ℕ))) (results results' : Row JobResult) (bytes bytes' : Row ℕ) : Type 0 where
   pub listed_as : (xs : List JobResult) × Grown results xs results' × (map shown xs ≡ listed 1 bytes.count answers)
   pub bytes_as : Grown bytes (all_bytes answers) bytes'
+
+-- the calls that a run of the file gives: all of its jobs', where there is room, and else none
+abbrev pub calls_run : {S : Type 0} → Ops S → Levels → Bool → List FileJob → Board S → List Call
+calls_run ops l true jobs b = file_calls ops l jobs b
+calls_run ops l false jobs b = []
 
 -- what a file leaves, where there is room and where there is none
 abbrev pub FileRun : {S : Type 0} → Bool → Board S × List (Told (List ℕ)) → Board S → Board S → Row JobResult → Row JobResult → Row ℕ → Row ℕ → Told (Unit {0}) → Type 0

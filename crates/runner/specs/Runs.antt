@@ -1,12 +1,14 @@
 -- A job file run on a board, at the levels l of the lines beside the wires: the board after each job, and what the job answers.
-use Rattle.std.specs.Prelude.{ℕ, ◌≤◌, List, [], ◌∷◌, ◌++◌, length}
+use Rattle.std.specs.Prelude.{ℕ, ◌≤◌, List, [], ◌∷◌, ◌++◌, length, map}
 use Rattle.refusals.specs.Told.{Told, ok, refused}
 use Rattle.part.specs.Ops.{Ops}
 use Rattle.part.specs.declared.levels.Levels.{Levels}
 use Rattle.board.specs.declared.board.Board.{Board}
+use Rattle.board.specs.declared.call.Call.{Call}
+use Rattle.board.specs.declared.call.Call.TheVariants.{Sample, Finish, Cut}
 use Rattle.board.specs.Engine.{finished, finish_told, cut as board-cut}
 use Rattle.jobfile.specs.Said.{Said, write, read, wait, finish, cut, recover, samples}
-use Rattle.controller.specs.Master.{run}
+use Rattle.controller.specs.Master.{Master, run, samples_of}
 use Rattle.controller.specs.Said.{master_of}
 use Rattle.jobfile.specs.FileJobs.{FileJob}
 
@@ -50,3 +52,25 @@ module _ {S : Type 0} (ops : Ops S) (l : Levels) where
   unfoldable pub ran : List FileJob → Board S → Board S × List (Told (List ℕ))
   ran [] b = (b, [])
   ran (job ∷ jobs) b = then_rest (file_job_run job.0 job.1 b) (ran jobs)
+
+  -- The calls that a job gives the board: a finish and a power cut are one each, and every other job gives the samples of its master.
+  abbrev pub samples_given : Master (Told (List ℕ)) → Board S → List Call
+  samples_given m b = map (λ x. Sample x) (samples_of ops m b)
+
+  abbrev pub job_calls : Said → Board S → List Call
+  job_calls (write a xs at) b = samples_given (master_of l 0 (write a xs at)) b
+  job_calls (read a aim at n) b = samples_given (master_of l n (read a aim at n)) b
+  job_calls (wait a n) b = samples_given (master_of l 0 (wait a n)) b
+  job_calls (finish k) b = Finish k ∷ []
+  job_calls (cut mask) b = Cut (record { mask = mask }) ∷ []
+  job_calls recover b = samples_given (master_of l 1 recover) b
+  job_calls (samples xs at) b = samples_given (master_of l (length xs) (samples xs at)) b
+
+  abbrev pub file_job_calls : Told Said → Board S → List Call
+  file_job_calls (ok said) b = job_calls said b
+  file_job_calls (refused r p) b = []
+
+  -- those of the jobs of a file, each on the board that the jobs before it leave
+  abbrev pub file_calls : List FileJob → Board S → List Call
+  file_calls [] b = []
+  file_calls (job ∷ jobs) b = file_job_calls job.0 b ++ file_calls jobs (file_job_run job.0 job.1 b).0

@@ -5,13 +5,13 @@ ghost use Rattle.jobfile.specs.Said.{shown_write};
 ghost use Rattle.jobfile.specs.Jobs.{said};
 ghost use Rattle.jobfile.specs.FileJobs.{file_jobs};
 ghost use Rattle.rows.specs.Rows.{items_of, row_of, room_of, first_with, Grown};
-ghost use Rattle.board.specs.Runs.{Reaches};
+ghost use Rattle.board.specs.Runs.{Leads};
 ghost use Rattle.controller.specs.Answers.{Into, Lasts};
 ghost use Rattle.controller.specs.Master.{run};
 ghost use Rattle.controller.specs.Recovery.{recovering};
 ghost use Rattle.controller.specs.Said.{master_of};
 ghost use Rattle.runner.specs.Sizes.{answers, job_answers, all_answers};
-ghost use Rattle.runner.specs.Results.{Listed, seen, seen_between, fits, Filed, FileRun};
+ghost use Rattle.runner.specs.Results.{Listed, seen, seen_between, fits, Filed, FileRun, calls_run};
 ghost use Rattle.runner.specs.Runs.{job_run, file_job_run, ran, bytes_of, Within};
 
 use super::result::{Done, JobResult, Refused};
@@ -173,7 +173,7 @@ fn run_jobs<P: Part>(
 
 // Runs a whole job file. Its results are appended to the row and the answered bytes to the byte list; where either is too short
 // for all of them nothing is run.
-#[tactic(auto, using(board::proofs::Splices::reaches_same, crate::proofs::Reaching::file_reaches))]
+#[tactic(auto, using(crate::proofs::Calling::none_called, crate::proofs::Calling::file_called))]
 pub fn run_file<P: Part>(
     board: &mut Board<P>,
     lines: &mut Levels,
@@ -182,7 +182,7 @@ pub fn run_file<P: Part>(
     bytes: &mut Row<'_, u8>,
 ) -> Result<(), Refusal>
     ensures run { FileRun (fits (file_jobs file.now) results.old bytes.old) (ran P.Part.ops lines.old (file_jobs file.now) board.old) board.old board.new results.old results.new bytes.old bytes.new (told (λ x. x) result) }
-    ensures reaches { Reaches P.Part.ops board.old board.new }
+    ensures calls { Leads P.Part.ops board.old (calls_run P.Part.ops lines.old (fits (file_jobs file.now) results.old bytes.old) (file_jobs file.now) board.old) board.new }
     ensures lines { lines.new ≡ lines.old }
     ensures results_lender { results.new.items.ghost_name ≡ results.old.items.ghost_name }
     ensures bytes_lender { bytes.new.items.ghost_name ≡ bytes.old.items.ghost_name }
