@@ -1,9 +1,7 @@
 // Runs a job file from standard input on a board with a fresh X9520 (part 0) paired with a fresh DS1846 (part 1), and prints a line for each job.
 #![tactic(auto)]
 
-use board::board::Board;
 use ds1846::state::Ds1846;
-use pair::Pair;
 use part::levels::Levels;
 use refusals::Refusal;
 use rows::row::Row;
@@ -11,8 +9,8 @@ use runner::line::ResultLine;
 use runner::result::{Done, JobResult, Refused};
 use runner::room::room_for;
 use runner::run::run_file;
+use runs::x9520_first;
 use std::io::Read;
-use x9520::state::X9520;
 
 // The longest job file.
 const MOST: usize = 4096;
@@ -33,7 +31,7 @@ fn read_file(rt: &HostRuntime) -> anyhow::Result<Vec<u8>> {
 }
 
 fn run(rt: &HostRuntime, file: &[u8]) -> anyhow::Result<()> {
-    let mut board = Board::new(Pair::new(X9520::fresh(), Ds1846::fresh()));
+    let mut board = x9520_first(Ds1846::fresh());
     let mut lines = Levels {
         wp: false,
         v2ro: false,
