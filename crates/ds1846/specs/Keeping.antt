@@ -98,8 +98,6 @@ settles = record {
   after_aim = λ s l a x h. refl;
   after_take = λ s l a x h. refl;
   after_give = λ s l a h. refl;
-  after_stop = λ s l clean h. refl;
-  after_finish = λ s l q h. refl;
 }
 
 pub moves : OwnMoves as_part

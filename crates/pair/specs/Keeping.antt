@@ -223,8 +223,6 @@ module _ {A B : Type 0} (a : Ops A) (b : Ops B) (ka : Keeps a) (kb : Keeps b) wh
         after_aim = λ s l y x. one_settles a b (for_first a b s y) _ _ s l (p.after_aim s.first l y x) (q.after_aim s.second l y x);
         after_take = λ s l y x. one_settles a b (for_first a b s y) _ _ s l (p.after_take s.first l y x) (q.after_take s.second l y x);
         after_give = λ s l y. one_settles a b (for_first a b s y) _ _ s l (p.after_give s.first l y) (q.after_give s.second l y);
-        after_stop = λ s l clean. settles_both a b s _ l (p.after_stop s.first l clean) (q.after_stop s.second l clean);
-        after_finish = λ s l m. one_settles a b (in_first a b s m) _ _ s l (p.after_finish s.first l m) (q.after_finish s.second l (rest a b s m));
       }
 
   pub keeps_both : Keeps (both a b)

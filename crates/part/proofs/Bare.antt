@@ -72,8 +72,6 @@ module _ {S : Type 0} (b : Bare S) where
     after_aim = λ s l a x h. refl;
     after_take = λ s l a x h. refl;
     after_give = λ s l a h. refl;
-    after_stop = λ s l clean h. refl;
-    after_finish = λ s l q h. refl;
   }
 
   pub keeps_bare : BareMoves → Keeps (bare_part b)

@@ -138,7 +138,7 @@ module _ {S : Type 0} (ops : Ops S) where
   abbrev pub Settled : Levels → S → Type 0
   Settled l s = ops.level s l ≡ s
 
-  -- The same levels again change nothing, also when other moves but a cut lay between.
+  -- The same levels again change nothing, also when a START or bytes at these levels lay between.
   pub record Settles : Type 0 where
     pub after_level : (s : S) (l : Levels) → Settled l (ops.level s l)
     pub after_start : (s : S) (l : Levels) → Settled l s → Settled l (ops.start s)
@@ -146,8 +146,6 @@ module _ {S : Type 0} (ops : Ops S) where
     pub after_aim : (s : S) (l : Levels) (a x : ℕ) → Settled l s → Settled l (ops.aim s a l x)
     pub after_take : (s : S) (l : Levels) (a x : ℕ) → Settled l s → Settled l (ops.take s a l x)
     pub after_give : (s : S) (l : Levels) (a : ℕ) → Settled l s → Settled l (ops.give s a)
-    pub after_stop : (s : S) (l : Levels) (clean : Bool) → Settled l s → Settled l (ops.stop s clean l)
-    pub after_finish : (s : S) (l : Levels) (q : ℕ) → Settled l s → Settled l (ops.finish s q)
 
 -- The laws of a part.
 pub record Keeps {S : Type 0} (ops : Ops S) : Type 0 where

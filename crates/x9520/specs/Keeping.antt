@@ -1,5 +1,5 @@
 -- The chip keeps the laws of a part. Assumes nothing.
-use Rattle.std.specs.Prelude.{◌≡◌, ℕ, ◌/◌, ◌%◌, Bool, true, false, cond, not, ◌&&◌, ◌⊎◌, Some, None, ◌==◌, refl}
+use Rattle.std.specs.Prelude.{◌≡◌, ℕ, ◌/◌, ◌%◌, Bool, true, false, not, ◌&&◌, ◌⊎◌, Some, None, ◌==◌, refl}
 use Rattle.std.proofs.Common.{ap, inl, inr}
 use Rattle.std.proofs.lemmas.Bool.{and_parts, cond-true}
 use Rattle.part.specs.declared.levels.Levels.{Levels}
@@ -7,11 +7,8 @@ use Rattle.part.specs.Keeps.{Keeps, Unstaged, Takes, Settles}
 use Rattle.eeprom.specs.Cells.{is_busy}
 use Rattle.eeprom.proofs.OnePart.{fixed, stored, unstaged, still, refused, Addressed, Aimed, OwnMoves, keeps_part}
 use Rattle.x9520.specs.declared.state.Flags.{Flags}
-use Rattle.x9520.specs.declared.state.Mode.{Mode}
-use Rattle.x9520.specs.declared.state.Mode.TheVariants.{Idle, Aiming, MemoryBytes, DcpByte, RegisterByte, Moved, Latching, Storing, Reading}
 use Rattle.x9520.specs.declared.state.X9520.{X9520}
-use Rattle.x9520.specs.Chip.{x9520, as_part, hears, flags_at, flags_stopped, tap_at}
-use Rattle.x9520.specs.Register.{bit}
+use Rattle.x9520.specs.Chip.{x9520, as_part, hears, flags_at, tap_at}
 use Rattle.x9520.specs.State.{chip, flags, known, heard_in, mode_after}
 use Rattle.x9520.specs.Writing.{verdict}
 use Rattle.x9520.specs.Bytes.{taken_rests, taken_none, target, taken_staged, taken_dcps, taken_heard, aimed_heard, acked_known, mode_heard}
@@ -53,26 +50,10 @@ again false v = refl
 flags_again : (a b : Bool) (l : Levels) → flags_at (flags (a && l.v2ro) (b && l.v3ro)) l ≡ flags (a && l.v2ro) (b && l.v3ro)
 flags_again a b l i = flags (again a l.v2ro i) (again b l.v3ro i)
 
-begun_flags : (b : Bool) (x : ℕ) (l : Levels) (f : Flags) → flags_at f l ≡ f
-    → flags_at (cond b (flags (bit 64 x && l.v2ro) (bit 32 x && l.v3ro)) f) l ≡ cond b (flags (bit 64 x && l.v2ro) (bit 32 x && l.v3ro)) f
-begun_flags true x l f h = flags_again (bit 64 x) (bit 32 x) l
-begun_flags false x l f h = h
-
-stopped_flags : (m : Mode) (b : Bool) (l : Levels) (f : Flags) → flags_at f l ≡ f → flags_at (flags_stopped m b l f) l ≡ flags_stopped m b l f
-stopped_flags Idle b l f h = h
-stopped_flags (Aiming d) b l f h = h
-stopped_flags MemoryBytes b l f h = h
-stopped_flags (DcpByte store) b l f h = h
-stopped_flags RegisterByte b l f h = h
-stopped_flags Moved b l f h = h
-stopped_flags (Latching x) b l f h = h
-stopped_flags (Storing x) b l f h = begun_flags b x l f h
-stopped_flags (Reading d) b l f h = h
-
 abbrev with_flags : X9520 → Flags → X9520
 with_flags s f = chip s.eeprom s.dcps s.latches f s.counter s.named s.mode
 
--- levels come before or after any move but a STOP and a cut: it makes no difference
+-- the levels come before or after one of these moves: it makes no difference
 settles : Settles x9520
 settles = record {
   after_level = λ s l. ap (with_flags s) (flags_again s.flags.v2os s.flags.v3os l);
@@ -81,8 +62,6 @@ settles = record {
   after_aim = λ s l a x h. ap (λ t. x9520.aim t a l x) h;
   after_take = λ s l a x h. ap (λ t. x9520.take t a l x) h;
   after_give = λ s l a h. ap (λ t. x9520.give t a) h;
-  after_stop = λ s l clean h. ap (with_flags (x9520.stop s clean l)) (stopped_flags s.mode (clean && not l.wp) l s.flags (ap (λ t. t.flags) h));
-  after_finish = λ s l q h. ap (λ t. x9520.finish t q) h;
 }
 
 pub moves : OwnMoves as_part
