@@ -14,7 +14,7 @@ pub part_none : (q : Bool) (w : Option ℕ) → w ≡ None → cond q w None ≡
 part_none true w h = h
 part_none false w h = refl
 
-pub other_part : (k d n : ℕ) → 1 ≤ k → of_part k n d ≡ d
+pub other_part : {A : Type 0} (k : ℕ) (d n : A) → 1 ≤ k → of_part k n d ≡ d
 other_part k d n h = cond-false (eqb k 0) n d (ne_eqb k 0 (λ e. omega arith))
 
 -- an address that part 0 owns where b is true

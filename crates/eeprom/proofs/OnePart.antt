@@ -210,6 +210,8 @@ module _ {S : Type 0} {N : ℕ} (c : OnePart S N) (m : OwnMoves c) where
         other_under_way = λ k i h. ap (λ g. of_part k (under_way_at g i) None) put ∙ elsewhere e (λ g. under_way_at g i) None (eqb k 0) (eqb q 0) (apart k q h);
         other_staged = λ k i h. ap (λ g. of_part k (staged_at g i) None) put ∙ elsewhere e (λ g. staged_at g i) None (eqb k 0) (eqb q 0) (apart k q h);
         other_tap = λ k j h. elsewhere e (λ g. c.tap (c.with_eeprom s g) j) 0 (eqb k 0) (eqb q 0) (apart k q h) ∙ ap (λ t. of_part k (c.tap t j) 0) back;
+        other_heard = λ k x h o. ap (is x) (m.put_heard s f);
+        other_hears = λ k x h o. let z = (owned (c.has (x / 2)) k o).0 in inl (ap (λ g. hears_at c.has g x) (put ∙ other_part q e (finishes e) (omega arith)));
       }
 
   pub keeps_part : Keeps (part_of c)

@@ -33,6 +33,10 @@ module _ {A B : Type 0} (a : Ops A) (b : Ops B) where
   abbrev pub for_first : Pair A B → ℕ → Bool
   for_first s y = a.has s.first (y / 2)
 
+  -- what is asked of an address byte is asked of the part that it is for
+  abbrev pub addressed : {X : Type 0} → (A → ℕ → X) → (B → ℕ → X) → Pair A B → ℕ → X
+  addressed f g s y = cond (for_first s y) (f s.first y) (g s.second y)
+
   -- address bytes and the bytes under them reach one part, a finish the part that has the number, and all else both
   abbrev pub both : Ops (Pair A B)
   both = record {
@@ -47,8 +51,8 @@ module _ {A B : Type 0} (a : Ops A) (b : Ops B) where
     under_way = numbered a.under_way b.under_way;
     busy = numbered a.busy b.busy;
     tap = numbered a.tap b.tap;
-    heard = λ s x. a.heard s.first x || b.heard s.second x;
-    hears = λ s x. cond (for_first s x) (a.hears s.first x) (b.hears s.second x);
+    heard = addressed a.heard b.heard;
+    hears = addressed a.hears b.hears;
     renew = λ s. join (a.renew s.first) (b.renew s.second);
     start = λ s. join (a.start s.first) (b.start s.second);
     address = λ s x. one (for_first s x) (λ u. a.address u x) (λ v. b.address v x) s;
@@ -56,7 +60,7 @@ module _ {A B : Type 0} (a : Ops A) (b : Ops B) where
     aim = λ s y l x. one (for_first s y) (λ u. a.aim u y l x) (λ v. b.aim v y l x) s;
     takes = λ s y l x. cond (for_first s y) (a.takes s.first y l x) (b.takes s.second y l x);
     take = λ s y l x. one (for_first s y) (λ u. a.take u y l x) (λ v. b.take v y l x) s;
-    given = λ s y. cond (for_first s y) (a.given s.first y) (b.given s.second y);
+    given = addressed a.given b.given;
     give = λ s y. one (for_first s y) (λ u. a.give u y) (λ v. b.give v y) s;
     level = λ s l. join (a.level s.first l) (b.level s.second l);
     stop = λ s clean l. join (a.stop s.first clean l) (b.stop s.second clean l);

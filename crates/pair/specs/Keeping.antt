@@ -1,17 +1,17 @@
 -- Two parts that keep the laws keep them as a pair. Assumes nothing.
 -- p is a fact of the first part and q one of the second; h is whether the byte or the number is for the first.
-use Rattle.std.specs.Prelude.{◌≡◌, ℕ, ◌/◌, ◌<◌, Bool, true, false, cond, ◌||◌, ◌⊎◌, Some, None, Option, ◌≢◌, refl}
+use Rattle.std.specs.Prelude.{◌≡◌, ℕ, ◌/◌, ◌<◌, Bool, true, false, cond, ◌⊎◌, Some, None, Option, ◌≢◌, refl}
 use Rattle.std.proofs.Common.{sym, ◌∙◌, inl, inr, arith}
-use Rattle.std.proofs.lemmas.Bool.{ltb-true, ltb-false, or_cases, or_left, or_right, or_from, cond-true, cond-false}
+use Rattle.std.proofs.lemmas.Bool.{ltb-true, ltb-false, or_left, or_right, cond-true, cond-false}
 use Rattle.std.specs.Option.{unwrap_or}
 use Rattle.part.specs.declared.levels.Levels.{Levels}
 use Rattle.part.specs.declared.power.PowerCut.{PowerCut}
 use Rattle.part.specs.Ops.{Ops}
 use Rattle.part.specs.Keeps.{Keeps, Shape, Fixed, Fades, UnstagedAt, Still, Starts, Addresses, Aims, Takes, Stops, Finishes, Cuts, Settles, Marked}
 use Rattle.pair.specs.declared.Pair.{Pair}
-use Rattle.pair.specs.Both.{both, join, one, in_first, rest, for_first}
-use Rattle.pair.specs.Numbers.{Seen, seen, by_number, at_number, unshift, reshift, owned}
-use Rattle.pair.specs.Moves.{fixed_self, fixed_both, fades_both, still_both, forgets_both, calm_both, passes_both, settles_both, unstaged_both, one_fixed, one_stored, one_fades, one_still, one_forgets, one_passes, one_settles}
+use Rattle.pair.specs.Both.{both, join, one, in_first, rest, for_first, addressed}
+use Rattle.pair.specs.Numbers.{Seen, seen, by_number, at_number, by_byte, unshift, reshift, owned}
+use Rattle.pair.specs.Moves.{fixed_self, fixed_both, fades_both, still_both, forgets_both, unheard_both, calm_both, passes_both, settles_both, unstaged_both, one_fixed, one_stored, one_fades, one_still, one_forgets, one_passes, one_settles}
 
 -- one write of x may come to be staged, in cell n of the part that owns the address
 abbrev Staging : ℕ → ℕ → ℕ → Type 0 → Option ℕ → Option ℕ → Type 0
@@ -21,13 +21,6 @@ staging_by : {Owns Owns' : Type 0} (n x i : ℕ) (before after : Option ℕ) →
 staging_by n x i before after f (inl e) = inl e
 staging_by n x i before after f (inr (inl e)) = inr (inl e)
 staging_by n x i before after f (inr (inr w)) = inr (inr (w.0, f w.1, w.2))
-
--- what either part hears, it heard before, or Z
-either_heard : {Z : Type 0} (p p' q q' : Bool) → (p ≡ true → (p' ≡ true) ⊎ Z) → (q ≡ true → (q' ≡ true) ⊎ Z) → (p || q) ≡ true → ((p' || q') ≡ true) ⊎ Z
-either_heard p p' q q' f g h = elim (or_cases p q h) [
-  | inl e ↦ elim (f e) [ inl z ↦ inl (or_left p' q' z) | inr z ↦ inr z ]
-  | inr e ↦ elim (g e) [ inl z ↦ inl (or_right p' q' z) | inr z ↦ inr z ]
-]
 
 module _ {A B : Type 0} (a : Ops A) (b : Ops B) (ka : Keeps a) (kb : Keeps b) where
   -- a state by itself
@@ -59,14 +52,17 @@ module _ {A B : Type 0} (a : Ops A) (b : Ops B) (ka : Keeps a) (kb : Keeps b) wh
       record {
         calm = calm_both a b s _ p.calm q.calm;
         unstaged = unstaged_both a b _ p.unstaged q.unstaged;
-        unheard = λ x. or_from _ _ (p.unheard x) (q.unheard x);
+        unheard = unheard_both a b _ p.unheard q.unheard;
       }
 
   -- what is heard after an address byte x, with whether it is for the first
   heard_after : (h : Bool) (s : Pair A B) (x y : ℕ) → (both a b).heard (one h (λ u. a.address u x) (λ v. b.address v x) s) y ≡ true
       → ((both a b).heard s y ≡ true) ⊎ ((y ≡ x) × (cond h (a.hears s.first x) (b.hears s.second x) ≡ true))
-  heard_after true s x y e = either_heard _ _ (b.heard s.second y) _ ((ka.addresses s.first x).heard y) inl e
-  heard_after false s x y e = either_heard (a.heard s.first y) _ _ _ inl ((kb.addresses s.second x).heard y) e
+  heard_after true s x y =
+      let p = ka.addresses s.first x in
+      by_byte a b (λ u v. v ≡ true → (u ≡ true) ⊎ ((y ≡ x) × (a.hears s.first x ≡ true))) a.heard b.heard s _ y (p.fixed.has _) (p.heard y) inl
+  heard_after false s x y =
+      by_byte a b (λ u v. v ≡ true → (u ≡ true) ⊎ ((y ≡ x) × (b.hears s.second x ≡ true))) a.heard b.heard s _ y refl inl ((kb.addresses s.second x).heard y)
 
   addresses : (s : Pair A B) (x : ℕ) → Addresses (both a b) s x ((both a b).address s x)
   addresses s x =
@@ -79,7 +75,7 @@ module _ {A B : Type 0} (a : Ops A) (b : Ops B) (ka : Keeps a) (kb : Keeps b) wh
         stored = one_stored a b h _ _ s c p.stored q.stored;
         fades = one_fades a b h _ _ s c p.fades q.fades;
         still = one_still a b h _ _ s c p.still q.still;
-        heard = λ y e. heard_after h s x y e;
+        heard = heard_after h s x;
       }
 
   -- where the part that answers an address has nothing staged in the owner, the pair has nothing staged there
@@ -144,7 +140,7 @@ module _ {A B : Type 0} (a : Ops A) (b : Ops B) (ka : Keeps a) (kb : Keeps b) wh
       record {
         fixed = one_fixed a b h _ _ s p.fixed q.fixed;
         stored = one_stored a b h _ _ s p.fixed p.stored q.stored;
-        forgets = one_forgets a b h _ _ s p.forgets q.forgets;
+        forgets = one_forgets a b h _ _ s p.fixed p.forgets q.forgets;
         acked = take_acked h s y l x refl;
         unacked = take_unacked h s y l x refl;
       }
@@ -162,7 +158,7 @@ module _ {A B : Type 0} (a : Ops A) (b : Ops B) (ka : Keeps a) (kb : Keeps b) wh
             (λ u v. (v.under_way i ≡ u.under_way i) ⊎ ((u.under_way i ≡ None) × (clean ≡ true) × (l.wp ≡ false) × (v.under_way i ≡ u.staged i)))
             s t k c (λ _. p.under_way k i) (λ _. q.under_way _ i);
         unstaged = unstaged_both a b t p.unstaged q.unstaged;
-        forgets = forgets_both a b s t p.forgets q.forgets;
+        forgets = forgets_both a b s t p.fixed p.forgets q.forgets;
       }
 
   -- of a finish of number m: a fact of that number, and one of another, k
@@ -180,6 +176,21 @@ module _ {A B : Type 0} (a : Ops A) (b : Ops B) (ka : Keeps a) (kb : Keeps b) wh
   finish_off true P s m k e d self p q = by_number a b P s _ k (ka.finishes s.first m).fixed.count (λ _. p) (λ _. self _)
   finish_off false P s m k e d self p q = by_number a b P s _ k refl (λ _. self _) (λ le. q (λ z. d (omega (arith, ltb-false m _ e))))
 
+  -- and one of an address byte x that another, k, owns: of whether m is busy, and of what is asked of x before and after
+  finish_under : (h : Bool) (P : Bool → Bool → Bool → Type 0) (f : A → ℕ → Bool) (g : B → ℕ → Bool) (s : Pair A B) (m k x : ℕ) → in_first a b s m ≡ h → (k ≢ m) →
+      (both a b).owner s (x / 2) ≡ Some k → ((w u : Bool) → P w u u) →
+      (a.owner s.first (x / 2) ≡ Some k → P (a.busy s.first m) (f s.first x) (f (a.finish s.first m) x)) →
+      ((rest a b s k ≢ rest a b s m) → b.owner s.second (x / 2) ≡ Some (rest a b s k) →
+      P (b.busy s.second (rest a b s m)) (g s.second x) (g (b.finish s.second (rest a b s m)) x)) →
+      P ((both a b).busy s m) (addressed a b f g s x) (addressed a b f g (one h (λ u. a.finish u m) (λ v. b.finish v (rest a b s m)) s) x)
+  finish_under true P f g s m k x e d o self p q =
+      let c = (ka.finishes s.first m).fixed.has (x / 2) in
+      elim (owned (a.has s.first (x / 2)) _ k _ _ o) [ inl r ↦ rw (e, c, r.0) (p r.1) | inr r ↦ rw (c, r.0) (self _ _) ]
+  finish_under false P f g s m k x e d o self p q = elim (owned (a.has s.first (x / 2)) _ k _ _ o) [
+    | inl r ↦ rw r.0 (self _ _)
+    | inr r ↦ rw (e, r.0) (q (λ z. d (omega (arith, ltb-false m _ e, r.1, z))) r.2)
+  ]
+
   finishing : (s : Pair A B) (m : ℕ) → Finishes (both a b) s m ((both a b).finish s m)
   finishing s m =
       let p = ka.finishes s.first m in
@@ -190,11 +201,14 @@ module _ {A B : Type 0} (a : Ops A) (b : Ops B) (ka : Keeps a) (kb : Keeps b) wh
         stores = λ i. finish_at h (λ u v. v.cell i ≡ unwrap_or (u.under_way i) (u.cell i)) s m refl (p.stores i) (q.stores i);
         ends = λ i. finish_at h (λ u v. v.under_way i ≡ None) s m refl (p.ends i) (q.ends i);
         fades = one_fades a b h _ _ s p.fixed p.fades q.fades;
-        forgets = one_forgets a b h _ _ s p.forgets q.forgets;
+        forgets = one_forgets a b h _ _ s p.fixed p.forgets q.forgets;
         other_cell = λ k i d. finish_off h (λ u v. v.cell i ≡ u.cell i) s m k refl d (λ u. refl) (p.other_cell k i d) (q.other_cell _ i);
         other_under_way = λ k i d. finish_off h (λ u v. v.under_way i ≡ u.under_way i) s m k refl d (λ u. refl) (p.other_under_way k i d) (q.other_under_way _ i);
         other_staged = λ k i d. finish_off h (λ u v. v.staged i ≡ u.staged i) s m k refl d (λ u. refl) (p.other_staged k i d) (q.other_staged _ i);
         other_tap = λ k j d. finish_off h (λ u v. v.tap j ≡ u.tap j) s m k refl d (λ u. refl) (p.other_tap k j d) (q.other_tap _ j);
+        other_heard = λ k x d o. finish_under h (λ _ u v. v ≡ u) a.heard b.heard s m k x refl d o (λ w u. refl) (p.other_heard k x d) (q.other_heard _ x);
+        other_hears = λ k x d o. finish_under h (λ w u v. (v ≡ u) ⊎ ((w ≡ true) × (v ≡ true))) a.hears b.hears s m k x refl d o (λ w u. inl refl)
+            (p.other_hears k x d) (q.other_hears _ x);
       }
 
   cutting : (s : Pair A B) (power : PowerCut) → Cuts (both a b) s power ((both a b).cut s power)
@@ -209,7 +223,7 @@ module _ {A B : Type 0} (a : Ops A) (b : Ops B) (ka : Keeps a) (kb : Keeps b) wh
         unmarked = λ k i. by_number a b (λ u v. (Marked (both a b) power.mask (u.offset i) → ⊥) → v.cell i ≡ u.cell i) s t k c (λ _. p.unmarked k i) (λ _. q.unmarked _ i);
         ends = λ k i. at_number a b (λ u. u.under_way i ≡ None) t k (λ _. p.ends k i) (λ _. q.ends _ i);
         unstaged = unstaged_both a b t p.unstaged q.unstaged;
-        unheard = λ x. or_from _ _ (p.unheard x) (q.unheard x);
+        unheard = unheard_both a b t p.unheard q.unheard;
       }
 
   settles : Settles (both a b)

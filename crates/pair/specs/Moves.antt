@@ -1,13 +1,12 @@
 -- What the moves of two parts leave as it was, the pair leaves as it was. Assumes nothing.
 use Rattle.std.specs.Prelude.{◌≡◌, Bool, true, false, ◌⊎◌, None, refl}
-use Rattle.std.proofs.Common.{ap, inl, inr}
-use Rattle.std.proofs.lemmas.Bool.{or_cases, or_left, or_right}
+use Rattle.std.proofs.Common.{ap, inl}
 use Rattle.part.specs.declared.levels.Levels.{Levels}
 use Rattle.part.specs.Ops.{Ops}
-use Rattle.part.specs.Keeps.{Fixed, Stored, Fades, Unstaged, Forgets, Still, Calm, Passes, Settled}
+use Rattle.part.specs.Keeps.{Fixed, Stored, Fades, Unstaged, Forgets, Unheard, Still, Calm, Passes, Settled}
 use Rattle.pair.specs.declared.Pair.{Pair}
 use Rattle.pair.specs.Both.{both, one}
-use Rattle.pair.specs.Numbers.{by_number, at_number}
+use Rattle.pair.specs.Numbers.{by_number, at_number, by_byte}
 
 -- a part that does not move
 pub fixed_self : {S : Type 0} (o : Ops S) (s : S) → Fixed o s s
@@ -47,8 +46,11 @@ module _ {A B : Type 0} (a : Ops A) (b : Ops B) where
   pub still_both : (s t : Pair A B) → Fixed a s.first t.first → Still a s.first t.first → Still b s.second t.second → Still (both a b) s t
   still_both s t c p q k j = by_number a b (λ u v. v.tap j ≡ u.tap j) s t k c.count (λ _. p k j) (λ _. q _ j)
 
-  pub forgets_both : (s t : Pair A B) → Forgets a s.first t.first → Forgets b s.second t.second → Forgets (both a b) s t
-  forgets_both s t p q x h = elim (or_cases _ _ h) [ inl e ↦ or_left _ _ (p x e) | inr e ↦ or_right _ _ (q x e) ]
+  pub forgets_both : (s t : Pair A B) → Fixed a s.first t.first → Forgets a s.first t.first → Forgets b s.second t.second → Forgets (both a b) s t
+  forgets_both s t c p q x = by_byte a b (λ u v. v ≡ true → u ≡ true) a.heard b.heard s t x (c.has _) (p x) (q x)
+
+  pub unheard_both : (t : Pair A B) → Unheard a t.first → Unheard b t.second → Unheard (both a b) t
+  unheard_both t p q x = by_byte a b (λ _ v. v ≡ false) a.heard b.heard t t x refl (p x) (q x)
 
   pub calm_both : (s t : Pair A B) → Calm a s.first t.first → Calm b s.second t.second → Calm (both a b) s t
   calm_both s t p q =
@@ -57,7 +59,7 @@ module _ {A B : Type 0} (a : Ops A) (b : Ops B) where
         fixed = fixed_both s t c q.fixed;
         stored = stored_both s t c p.stored q.stored;
         fades = fades_both s t c p.fades q.fades;
-        forgets = forgets_both s t p.forgets q.forgets;
+        forgets = forgets_both s t c p.forgets q.forgets;
       }
 
   pub passes_both : (s t : Pair A B) → Passes a s.first t.first → Passes b s.second t.second → Passes (both a b) s t
@@ -90,9 +92,10 @@ module _ {A B : Type 0} (a : Ops A) (b : Ops B) where
   one_still true f g s c p q = still_both s _ c p (λ k j. refl)
   one_still false f g s c p q = still_both s _ (fixed_self a s.first) (λ k j. refl) q
 
-  pub one_forgets : (h : Bool) (f : A → A) (g : B → B) (s : Pair A B) → Forgets a s.first (f s.first) → Forgets b s.second (g s.second) → Forgets (both a b) s (one h f g s)
-  one_forgets true f g s p q = forgets_both s _ p (λ x e. e)
-  one_forgets false f g s p q = forgets_both s _ (λ x e. e) q
+  pub one_forgets : (h : Bool) (f : A → A) (g : B → B) (s : Pair A B) → Fixed a s.first (f s.first) → Forgets a s.first (f s.first) → Forgets b s.second (g s.second)
+      → Forgets (both a b) s (one h f g s)
+  one_forgets true f g s c p q = forgets_both s _ c p (λ x e. e)
+  one_forgets false f g s c p q = forgets_both s _ (fixed_self a s.first) (λ x e. e) q
 
   pub one_passes : (h : Bool) (f : A → A) (g : B → B) (s : Pair A B) → Passes a s.first (f s.first) → Passes b s.second (g s.second) → Passes (both a b) s (one h f g s)
   one_passes h f g s p q =
@@ -102,7 +105,7 @@ module _ {A B : Type 0} (a : Ops A) (b : Ops B) where
           fixed = one_fixed h f g s c q.calm.fixed;
           stored = one_stored h f g s c p.calm.stored q.calm.stored;
           fades = one_fades h f g s c p.calm.fades q.calm.fades;
-          forgets = one_forgets h f g s p.calm.forgets q.calm.forgets;
+          forgets = one_forgets h f g s c p.calm.forgets q.calm.forgets;
         };
         still = one_still h f g s c p.still q.still;
       }

@@ -1,10 +1,10 @@
--- What is asked of a number of a pair is asked of one of the two parts. Assumes nothing.
-use Rattle.std.specs.Prelude.{◌≡◌, ℕ, ◌+◌, ◌-◌, ◌<◌, ◌≤◌, Bool, true, false, cond, ◌⊎◌, Some, None, Option, refl}
+-- What is asked of a number or of an address byte of a pair is asked of one of the two parts. Assumes nothing.
+use Rattle.std.specs.Prelude.{◌≡◌, ℕ, ◌+◌, ◌-◌, ◌/◌, ◌<◌, ◌≤◌, Bool, true, false, cond, ◌⊎◌, Some, None, Option, refl}
 use Rattle.std.proofs.Common.{ap, ◌∙◌, inl, inr, arith}
-use Rattle.std.proofs.lemmas.Bool.{cases_lt, lt-ltb, le-ltb}
+use Rattle.std.proofs.lemmas.Bool.{cases_lt, lt-ltb, le-ltb, cases_Bool}
 use Rattle.part.specs.Ops.{Ops}
 use Rattle.pair.specs.declared.Pair.{Pair}
-use Rattle.pair.specs.Both.{both, shift}
+use Rattle.pair.specs.Both.{both, shift, addressed}
 
 -- all that is asked of one numbered part
 pub record Seen : Type 0 where
@@ -45,6 +45,11 @@ module _ {A B : Type 0} (a : Ops A) (b : Ops B) where
       → (a.count s.first ≤ k → P (seen b s.second (k - a.count s.first)))
       → P (seen (both a b) s k)
   at_number P s k p q = by_number (λ u _. P u) s s k refl p q
+
+  -- a fact of an address byte, from a state s to t, is one of the part that the byte is for
+  pub by_byte : (P : Bool → Bool → Type 0) (f : A → ℕ → Bool) (g : B → ℕ → Bool) (s t : Pair A B) (x : ℕ) → a.has t.first (x / 2) ≡ a.has s.first (x / 2)
+      → P (f s.first x) (f t.first x) → P (g s.second x) (g t.second x) → P (addressed a b f g s x) (addressed a b f g t x)
+  by_byte P f g s t x c p q = elim (cases_Bool (a.has s.first (x / 2))) [ inl e ↦ rw (c, e) p | inr e ↦ rw (c, e) q ]
 
 -- the second's numbers, from the pair's and back
 pub unshift : (c k : ℕ) (o : Option ℕ) → shift c o ≡ Some k → (c ≤ k) × (o ≡ Some (k - c))

@@ -101,7 +101,11 @@ impl<A: Part, B: Part> Part for Pair<A, B> {
     }
 
     fn heard(&self, byte: u8) -> bool {
-        self.first.heard(byte) || self.second.heard(byte)
+        if self.first.has(byte / 2) {
+            self.first.heard(byte)
+        } else {
+            self.second.heard(byte)
+        }
     }
 
     fn hears(&self, byte: u8) -> bool {

@@ -107,6 +107,8 @@ module _ {S : Type 0} (b : Bare S) where
       other_under_way = λ k i n. refl;
       other_staged = λ k i n. refl;
       other_tap = λ k j n. refl;
+      other_heard = λ k x n o. refl;
+      other_hears = λ k x n o. inl refl;
     };
     cuts = λ s p. record {
       fixed = fixed s _;

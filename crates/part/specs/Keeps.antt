@@ -109,7 +109,9 @@ module _ {S : Type 0} (ops : Ops S) where
     pub unstaged : Unstaged t
     pub forgets : Forgets s t
 
-  -- a finish of part q stores all that is under way there, and leaves none; a cell with nothing under way keeps its byte; every other part is as it was
+  -- A finish of part q stores all that is under way there, and leaves none; a cell with nothing under way keeps its byte. Every other part is as it was,
+  -- and so is what was heard, and would be heard, under the addresses that it owns; but a layer over several parts may hear nothing while a write is
+  -- under way in any of them, and the end of that write then lets it hear again.
   pub record Finishes (s : S) (q : ℕ) (t : S) : Type 0 where
     pub fixed : Fixed s t
     pub stores : (i : ℕ) → ops.cell t q i ≡ unwrap_or (ops.under_way s q i) (ops.cell s q i)
@@ -120,6 +122,9 @@ module _ {S : Type 0} (ops : Ops S) where
     pub other_under_way : (k i : ℕ) → (k ≢ q) → ops.under_way t k i ≡ ops.under_way s k i
     pub other_staged : (k i : ℕ) → (k ≢ q) → ops.staged t k i ≡ ops.staged s k i
     pub other_tap : (k j : ℕ) → (k ≢ q) → ops.tap t k j ≡ ops.tap s k j
+    pub other_heard : (k x : ℕ) → (k ≢ q) → ops.owner s (x / 2) ≡ Some k → ops.heard t x ≡ ops.heard s x
+    pub other_hears : (k x : ℕ) → (k ≢ q) → ops.owner s (x / 2) ≡ Some k
+        → (ops.hears t x ≡ ops.hears s x) ⊎ ((ops.busy s q ≡ true) × (ops.hears t x ≡ true))
 
   -- bit n of a number is 1
   abbrev pub Marked : ℕ → ℕ → Type 0
