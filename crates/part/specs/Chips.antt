@@ -21,3 +21,7 @@ module _ {S : Type 0} (ops : Ops S) where
   -- whatever is done to it from a state on
   abbrev pub AlwaysChip : S → Type 0
   AlwaysChip s = (moves : List Move) → Chip (after ops s moves)
+
+  -- renewal makes it the fresh chip, whatever it was
+  abbrev pub Renews : S → Type 0
+  Renews fresh = (s : S) → ops.renew s ≡ fresh
