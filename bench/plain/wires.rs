@@ -19,7 +19,7 @@ impl fmt::Display for Transfer {
     }
 }
 
-/// A transfer that has begun: its whole bytes, whether all were acknowledged, and the bits since the last of them.
+/// A transfer that has begun: its whole bytes, whether the last of them was acknowledged, and the bits since.
 struct Open {
     first: usize,
     address: u8,
@@ -31,13 +31,13 @@ struct Open {
 
 impl Open {
     fn new(first: usize) -> Self {
-        Open { first, address: 0, ninths: 0, acked: true, bits: 0, byte: 0 }
+        Open { first, address: 0, ninths: 0, acked: false, bits: 0, byte: 0 }
     }
 
     fn rise(&mut self, bit: bool) {
         if self.bits == 8 {
             self.ninths += 1;
-            self.acked &= !bit;
+            self.acked = !bit;
             self.bits = 0;
             return;
         }
@@ -49,7 +49,7 @@ impl Open {
     }
 
     fn is_clean(&self) -> bool {
-        self.bits == 1 && self.ninths > 0 && self.acked
+        self.bits == 1 && self.acked
     }
 
     fn end(self, last: usize, clean: bool) -> Transfer {

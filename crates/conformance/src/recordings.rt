@@ -69,9 +69,27 @@ pub static CASES: &[Case] = &[
         expected: "2 30 162 1 0, 2 36 162 1 0",
     },
     Case {
-        name: "recording: bytes after one without an ACK are counted on, and the STOP after them is not clean",
+        name: "recording: a STOP after a byte with a LOW ninth bit is clean, also where a byte before it has a HIGH one",
         steps: &[Recording(2, &[Start, Bytes(&[0xa6]), Acked(&[0x10, 0xab]), Stop])],
-        expected: "2 87 166 3 0",
+        expected: "2 87 166 3 1",
+    },
+    Case {
+        name: "recording: a STOP after an address byte with a HIGH ninth bit is not clean",
+        steps: &[Recording(2, &[Start, Bytes(&[0xa6]), Stop])],
+        expected: "2 33 166 1 0",
+    },
+    Case {
+        name: "recording: a STOP two rises after a LOW ninth bit is not clean, also where a byte before it has a HIGH one",
+        steps: &[Recording(
+            2,
+            &[Start, Bytes(&[0xa6]), Acked(&[0x10]), Bits(1, 0xff), Stop],
+        )],
+        expected: "2 63 166 2 0",
+    },
+    Case {
+        name: "recording: a read that its master ends with a HIGH ninth bit is not clean",
+        steps: &[Recording(2, &[Start, Acked(&[0xa3, 0x5a]), Bytes(&[0xc3]), Stop])],
+        expected: "2 87 163 3 0",
     },
     Case {
         name: "recording: SCL and SDA that change together make neither START nor STOP",

@@ -5,7 +5,7 @@ use Rattle.rows.specs.declared.row.Row.{Row}
 use Rattle.rows.specs.Rows.{items_of}
 use Rattle.rows.proofs.Growing.{length_grown as row_length}
 use Rattle.board.specs.Samples.{bit_value}
-use Rattle.board.specs.Wires.{Edge, steady, started, stopped, rose, fell, edge, Transfer as Open, is_clean}
+use Rattle.board.specs.Wires.{Edge, steady, started, stopped, rose, fell, edge, Transfer as Open}
 use Rattle.reader.specs.declared.transfer.Transfer.{Transfer}
 use Rattle.reader.specs.declared.wires.Edge.{Edge as Seen}
 use Rattle.reader.specs.declared.wires.Wires.{Wires}
@@ -13,7 +13,7 @@ use Rattle.reader.specs.Kept.{kept_of, kept_next, edge_of, starts, AllSmall, wir
 use Rattle.reader.specs.Read.{transfers}
 use Rattle.reader.specs.Steps.{seen, reader_after, stepped, Stands}
 use Rattle.reader.specs.Reading.{opened, prolonged, ended, with_last, going_on, ending, grown, rows_after}
-use Rattle.reader.specs.Recording.{scl_after, sda_after, edge_at, open_after}
+use Rattle.reader.specs.Recording.{scl_after, sda_after, edge_at, open_after, clean_shown}
 use Rattle.reader.proofs.Keeping.{next_kept, few, few_none, few_next, small_kept}
 
 -- what the next sample shows, and what the reader keeps then
@@ -44,7 +44,7 @@ length_end n (Some t) clean rows = length_last (ended n (clean t)) rows
 pub length_grown : (e : Edge) (n : ℕ) (o u : Option Open) (rows : List Transfer) → length (grown e n o u rows) ≡ length rows + bit_value (starts e)
 length_grown steady n o u rows = length_on n o u rows
 length_grown started n o u rows = length_push (ending n o (λ t. false) rows) (opened n) ∙ ap (λ m. m + 1) (length_end n o (λ t. false) rows)
-length_grown stopped n o u rows = length_end n o is_clean rows ∙ sym (add-zero _)
+length_grown stopped n o u rows = length_end n o clean_shown rows ∙ sym (add-zero _)
 length_grown (rose bit) n o u rows = length_on n o u rows
 length_grown fell n o u rows = length_on n o u rows
 

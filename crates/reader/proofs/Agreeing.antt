@@ -13,10 +13,11 @@ use Rattle.board.specs.Wires.{Edge, steady, started, stopped, rose, fell, edge, 
 use Rattle.board.specs.Runs.{History, pulls, pulls_by, onward, state, history, edge_at as run_edge}
 use Rattle.board.specs.Obeys.{sda_after as sda_of}
 use Rattle.board.proofs.Running.{steps}
-use Rattle.reader.specs.Recording.{scl_after, sda_after, edge_at, open_after}
+use Rattle.reader.specs.Recording.{scl_after, sda_after, edge_at, open_after, clean_at, last_acked, clean_shown}
 use Rattle.reader.specs.declared.transfer.Transfer.{Transfer as Row}
 use Rattle.reader.specs.Transfers.{address_of, is_stop, Bounds, Closed, LeftOpen, IsTransfer, no_transfer, at, Reads}
-use Rattle.reader.specs.Agreement.{MasterHeld, Records, calls, ongoing_at, Alike, Agrees, ReadsRuns}
+use Rattle.reader.specs.Agreement.{HeldLow, Records, calls, ongoing_at, Alike, Agrees, ReadsRuns}
+use Rattle.reader.proofs.Rises.{clean_told}
 
 -- a sample byte tells both wires
 scl_told : (c d : Bool) → odd (bit_value c + 2 * bit_value d) ≡ c
@@ -35,7 +36,6 @@ sda_told false false = refl
 record Twin (y x : Byte) (bs : List Byte) : Type 0 where
   value : y.value ≡ x.value
   low : y.low ≡ x.low
-  pulled : y.pulled ≡ y.low
   real : sending bs ≡ true → x.pulled ≡ true → x.low ≡ true
 
 abbrev Twins : List Byte → List Byte → Type 0
@@ -58,7 +58,7 @@ Ninth pulled w o = (t : Open) → o ≡ Some t → 8 ≤ length t.bits → sendi
 rise_by : (q : Bool) (w p : Bool) (u t : Open) → ltb (length t.bits) 8 ≡ q → u.bits ≡ t.bits → Twins u.bytes t.bytes → Ninth p w (Some t)
     → Same (Some (risen_by q w (not w) u)) (Some (risen_by q w p t))
 rise_by true w p u t e bits bytes n = (ap (λ z. w ∷ z) bits, bytes)
-rise_by false w p u t e bits bytes n = (refl, (record { value = ap number bits; low = refl; pulled = refl; real = λ s q. ap not (n t refl (ltb-false _ 8 e) s q) }, bytes))
+rise_by false w p u t e bits bytes n = (refl, (record { value = ap number bits; low = refl; real = λ s q. ap not (n t refl (ltb-false _ 8 e) s q) }, bytes))
 
 rise_same : (w p : Bool) (v o : Option Open) → Same v o → Ninth p w o → Same (rising w (not w) v) (rising w p o)
 rise_same w p None None s n = s
@@ -97,49 +97,39 @@ same_some [] (x ∷ bs) s = absurd s
 same_some (y ∷ cs) [] s = absurd s
 same_some (y ∷ cs) (x ∷ bs) s = refl
 
--- p is judged as q is, or a master that held the wire makes the difference
+-- p is judged as q is, or p alone holds, and that for a reason
 abbrev Judged : Bool → Bool → Type 0 → Type 0
 Judged p q H = (p ≡ q) ⊎ ((p ≡ true) × (q ≡ false) × H)
 
-abbrev HeldHere : Byte → List Byte → Type 0
-HeldHere x bs = (sending bs ≡ true) × (x.low ≡ true) × (x.pulled ≡ false)
+-- a last byte after one that was not acknowledged, and one sent after those that all were
+deaf_judged : (l : Bool) (y x : Byte) (bs : List Byte) → x.low ≡ l → all_acked bs ≡ false → Twin y x bs → Judged y.low false (HeldLow (x ∷ bs))
+deaf_judged true y x bs low deaf t = inr (t.low ∙ low, refl, (low, inl deaf))
+deaf_judged false y x bs low deaf t = inl (t.low ∙ low)
 
-sent_judged : (l p : Bool) (y x : Byte) (bs : List Byte) → x.low ≡ l → x.pulled ≡ p → sending bs ≡ true → Twin y x bs → Judged y.pulled x.pulled (HeldHere x bs)
-sent_judged true true y x bs low pulled sends t = inl (t.pulled ∙ t.low ∙ low ∙ sym pulled)
-sent_judged true false y x bs low pulled sends t = inr (t.pulled ∙ t.low ∙ low, pulled, (sends, low, pulled))
+sent_judged : (l p : Bool) (y x : Byte) (bs : List Byte) → x.low ≡ l → x.pulled ≡ p → sending bs ≡ true → Twin y x bs → Judged y.low x.pulled (HeldLow (x ∷ bs))
+sent_judged true true y x bs low pulled sends t = inl (t.low ∙ low ∙ sym pulled)
+sent_judged true false y x bs low pulled sends t = inr (t.low ∙ low, pulled, (low, inr (sends, pulled)))
 sent_judged false true y x bs low pulled sends t = absurd (clash (sym low ∙ t.real sends pulled))
-sent_judged false false y x bs low pulled sends t = inl (t.pulled ∙ t.low ∙ low ∙ sym pulled)
+sent_judged false false y x bs low pulled sends t = inl (t.low ∙ low ∙ sym pulled)
 
-last_judged : (a r : Bool) (y x : Byte) (bs : List Byte) → all_acked bs ≡ a → reading bs ≡ r → Twin y x bs → Judged (a && acked_by r y) (a && acked_by r x) (HeldHere x bs)
-last_judged false r y x bs e f t = inl refl
+last_judged : (a r : Bool) (y x : Byte) (bs : List Byte) → all_acked bs ≡ a → reading bs ≡ r → Twin y x bs → Judged y.low (a && acked_by r x) (HeldLow (x ∷ bs))
+last_judged false r y x bs e f t = deaf_judged x.low y x bs refl e t
 last_judged true true y x bs e f t = inl t.low
 last_judged true false y x bs e f t = sent_judged x.low x.pulled y x bs refl refl (and_from _ _ e (ap not f)) t
 
-also : (p q : Bool) (H : Type 0) → q ≡ false → H → Judged p q H
-also true q H e h = inr (refl, e, h)
-also false q H e h = inl (sym e)
-
-more_held : (x : Byte) (bs : List Byte) (p q : Bool) → Judged p q (HeldHere x bs) → Judged p q (MasterHeld (x ∷ bs))
-more_held x bs p q (inl e) = inl e
-more_held x bs p q (inr h) = inr (h.0, h.1, inl h.2)
-
-acked_judged : (cs bs : List Byte) → Twins cs bs → Judged (all_acked cs) (all_acked bs) (MasterHeld bs)
-acked_judged [] [] s = inl refl
-acked_judged [] (x ∷ bs) s = absurd s
-acked_judged (y ∷ cs) [] s = absurd s
-acked_judged (y ∷ cs) (x ∷ bs) s = by (acked_judged cs bs s.1)
-  where
-    by : Judged (all_acked cs) (all_acked bs) (MasterHeld bs) → Judged (all_acked (y ∷ cs)) (all_acked (x ∷ bs)) (MasterHeld (x ∷ bs))
-    by (inl e) = rw (e, same_address cs bs s.1) (more_held x bs _ _ (last_judged (all_acked bs) (reading bs) y x bs refl refl s.0))
-    by (inr h) = also _ _ _ (and_left (all_acked bs) (acked_by (reading bs) x) h.1) (inr h.2)
+bytes_judged : (cs bs : List Byte) → Twins cs bs → Judged (last_acked cs) (some_byte bs && all_acked bs) (HeldLow bs)
+bytes_judged [] [] s = inl refl
+bytes_judged [] (x ∷ bs) s = absurd s
+bytes_judged (y ∷ cs) [] s = absurd s
+bytes_judged (y ∷ cs) (x ∷ bs) s = last_judged (all_acked bs) (reading bs) y x bs refl refl s.0
 
 and_judged : (a p q : Bool) (H : Type 0) → Judged p q H → Judged (a && p) (a && q) H
 and_judged true p q H j = j
 and_judged false p q H j = inl refl
 
 -- the STOP that ends them
-clean_judged : (u t : Open) → u.bits ≡ t.bits → Twins u.bytes t.bytes → Judged (is_clean u) (is_clean t) (MasterHeld t.bytes)
-clean_judged u t bits bytes = rw (bits, same_some u.bytes t.bytes bytes) (and_judged (eqb (length t.bits) 1) _ _ _ (and_judged (some_byte t.bytes) _ _ _ (acked_judged u.bytes t.bytes bytes)))
+clean_judged : (u t : Open) → u.bits ≡ t.bits → Twins u.bytes t.bytes → Judged (clean_shown u) (is_clean t) (HeldLow t.bytes)
+clean_judged u t bits bytes = rw bits (and_judged (eqb (length t.bits) 1) _ _ _ (bytes_judged u.bytes t.bytes bytes))
 
 same_address_of : (u t : Open) → u.bits ≡ t.bits → Twins u.bytes t.bytes → address_of u ≡ address_of t
 same_address_of u t bits bytes = rw (bits, same_some u.bytes t.bytes bytes, same_address u.bytes t.bytes bytes) refl
@@ -158,8 +148,8 @@ some_of (Some v) None u s e = absurd s
 some_of (Some v) (Some t) u s e = let f = subst (λ z. (z.bits ≡ t.bits) × Twins z.bytes t.bytes) (same_Some v u e) s in (t, (refl, f.0, f.1))
 
 -- what a record says of its STOP, by what its transfer o says
-held_at : (r p stops : Bool) (o : Option Open) (t : Open) → r ≡ p → o ≡ Some t → Judged p (stops && is_clean t) (MasterHeld t.bytes)
-    → (r ≡ (stops && clean o)) ⊎ ((r ≡ true) × ((stops && clean o) ≡ false) × ((u : Open) × ((o ≡ Some u) × MasterHeld u.bytes)))
+held_at : (r p stops : Bool) (o : Option Open) (t : Open) → r ≡ p → o ≡ Some t → Judged p (stops && is_clean t) (HeldLow t.bytes)
+    → (r ≡ (stops && clean o)) ⊎ ((r ≡ true) × ((stops && clean o) ≡ false) × ((u : Open) × ((o ≡ Some u) × HeldLow u.bytes)))
 held_at r p stops o t e f (inl g) = inl (e ∙ g ∙ sym (ap (λ o. stops && clean o) f))
 held_at r p stops o t e f (inr g) = inr (e ∙ g.0, ap (λ o. stops && clean o) f ∙ g.1, (t, (f, g.2)))
 
@@ -230,7 +220,7 @@ module _ {S : Type 0} (ops : Ops S) where
     own r = record { first = r.first; last = r.last; address = r.address; ninths = r.ninths; clean = is_stop (E r.last) && clean (O r.last) }
 
     abbrev Ours : Row → Type 0
-    Ours r = IsTransfer E O n r
+    Ours r = IsTransfer E O (λ j. clean (O j)) n r
 
     shown : (j : ℕ) → j < n → Bounds (E j) → Bounds (edge_at xs j)
     shown j h k = subst Bounds (sym (edge_alike j h)) k
@@ -239,7 +229,7 @@ module _ {S : Type 0} (ops : Ops S) where
       ours : Ours (own r)
       alike : Alike ops b samples r (own r)
 
-    closed_beside : (r : Row) → IsTransfer (edge_at xs) (open_after xs) n r → Closed (edge_at xs) (open_after xs) n r → Beside r
+    closed_beside : (r : Row) → IsTransfer (edge_at xs) (open_after xs) (clean_at xs) n r → Closed (edge_at xs) (open_after xs) (clean_at xs) n r → Beside r
     closed_beside r i c =
         let within = i.within in
         let f = some_of (open_after xs r.last) (O r.last) c.t (open_same r.last (omega arith)) c.opened in
@@ -247,6 +237,7 @@ module _ {S : Type 0} (ops : Ops S) where
         let g = f.1 in
         let e = edge_alike r.last within in
         let stops = is_stop (E r.last) in
+        let so : r.clean ≡ (stops && clean_shown c.t) = c.clean ∙ ap (λ k. is_stop k && clean_at xs r.last) e ∙ ap (λ q. stops && q) (sym (clean_told xs r.last c.t c.opened)) in
         let j = and_judged stops _ _ _ (clean_judged c.t t g.1 g.2) in
         record {
           ours = record {
@@ -260,13 +251,13 @@ module _ {S : Type 0} (ops : Ops S) where
               t = t;
               opened = g.0;
               shows = (c.shows.0 ∙ same_address_of c.t t g.1 g.2, c.shows.1 ∙ same_length c.t.bytes t.bytes g.2);
-              clean = ap (λ o. stops && clean o) g.0;
+              clean = refl;
             });
           };
-          alike = record { first = refl; last = refl; address = refl; ninths = refl; clean = held_at r.clean _ stops _ t (c.clean ∙ ap (λ k. is_stop k && is_clean c.t) e) g.0 j };
+          alike = record { first = refl; last = refl; address = refl; ninths = refl; clean = held_at r.clean _ stops _ t so g.0 j };
         }
 
-    open_beside : (r : Row) → IsTransfer (edge_at xs) (open_after xs) n r → LeftOpen (edge_at xs) (open_after xs) n r → Beside r
+    open_beside : (r : Row) → IsTransfer (edge_at xs) (open_after xs) (clean_at xs) n r → LeftOpen (edge_at xs) (open_after xs) (clean_at xs) n r → Beside r
     open_beside r i c =
         let within = i.within in
         let f = some_of (open_after xs n) (O n) c.t (open_same n (omega arith)) c.opened in
@@ -296,14 +287,14 @@ module _ {S : Type 0} (ops : Ops S) where
         unstopped (inl e) s = ap (λ k. is_stop (E k)) (sym e) ∙ ap is_stop s
         unstopped (inr l) s = no_stop _ (λ z. c.on r.last l i.within (shown r.last i.within z))
 
-    beside : (r : Row) → IsTransfer (edge_at xs) (open_after xs) n r → Beside r
+    beside : (r : Row) → IsTransfer (edge_at xs) (open_after xs) (clean_at xs) n r → Beside r
     beside r i = by i.ends
       where
-        by : Closed (edge_at xs) (open_after xs) n r ⊎ LeftOpen (edge_at xs) (open_after xs) n r → Beside r
+        by : Closed (edge_at xs) (open_after xs) (clean_at xs) n r ⊎ LeftOpen (edge_at xs) (open_after xs) (clean_at xs) n r → Beside r
         by (inl c) = closed_beside r i c
         by (inr c) = open_beside r i c
 
-    agreeing : (rows : List Row) → Reads (edge_at xs) (open_after xs) n rows → Agrees ops b samples n rows
+    agreeing : (rows : List Row) → Reads (edge_at xs) (open_after xs) (clean_at xs) n rows → Agrees ops b samples n rows
     agreeing rows reads =
         let long = length-map rows own in
         record {

@@ -7,7 +7,7 @@ use Rattle.std.proofs.lemmas.Option.{same_Some, none-some}
 use Rattle.rows.specs.declared.row.Row.{Row}
 use Rattle.rows.specs.Rows.{items_of, row_of, holds_none, Grown}
 use Rattle.rows.proofs.Growing.{last_grown, grown_other}
-use Rattle.board.specs.Wires.{Transfer as Open, started, stopped, rose, is_clean}
+use Rattle.board.specs.Wires.{Transfer as Open, started, stopped, rose}
 use Rattle.reader.specs.declared.kept.Kept.{Kept}
 use Rattle.reader.specs.declared.transfer.Transfer.{Transfer}
 use Rattle.reader.specs.declared.wires.Edge.{Edge as Seen}
@@ -15,8 +15,9 @@ use Rattle.reader.specs.declared.wires.Edge.TheVariants.{Steady, Fall}
 use Rattle.reader.specs.Kept.{kept_of, kept_new, kept_risen_by, kept_risen, kept_next, kept_address, rise_shows, kept_clean, edge_of}
 use Rattle.reader.specs.Steps.{HasLast, Stands, kept_prolonged, Changes, Begins, GoesOn, Reaches, Stopped, Grows}
 use Rattle.reader.specs.Reading.{opened, prolonged, ended, with_last, going_on, ending}
+use Rattle.reader.specs.Recording.{clean_shown}
 use Rattle.reader.specs.Transfers.{Shows}
-use Rattle.reader.proofs.Keeping.{prolonged_all, address_kept, clean_kept}
+use Rattle.reader.proofs.Keeping.{prolonged_all, address_kept}
 use Rattle.reader.proofs.Words.{with_last_more}
 
 -- rows that are not empty, by their last
@@ -161,15 +162,15 @@ pub stopped_by : (n : ℕ) (before : Option Kept) (k : Kept) (b c : Row Transfer
 stopped_by n before k b c i h None e start rows m g = absurd (none-some _ (sym e ∙ i))
 stopped_by n before k b c i h (Some t) e start [] m g = absurd m
 stopped_by n before k b c i h (Some t) e start (r ∷ rows) m g =
-    let same : kept_clean k ≡ is_clean t = ap kept_clean (same_Some _ _ (sym i ∙ e)) ∙ clean_kept t in
+    let same : kept_clean k ≡ clean_shown t = ap kept_clean (same_Some _ _ (sym i ∙ e)) in
     subst (λ q. Grown start (with_last (ended n q) (r ∷ rows)) c) same (h start r rows g)
 
 pub stands_stopped : (n : ℕ) (before after : Option Kept) (b c : Row Transfer) → after ≡ None → Stopped n before b c → Grows stopped n before after b c
 stands_stopped n before after b c closed h t None e f start m rows s =
     record {
-      written = ending n t is_clean s.written;
+      written = ending n t clean_shown s.written;
       last = tt;
-      reached = sym (ended_twice n m t is_clean s.written) ∙ ap (ending n t is_clean) s.reached;
+      reached = sym (ended_twice n m t clean_shown s.written) ∙ ap (ending n t clean_shown) s.reached;
       grown = h t e start s.written s.last s.grown;
     }
 stands_stopped n before after b c closed h t (Some u) e f start m rows s = absurd (none-some _ (sym closed ∙ f))

@@ -1,19 +1,14 @@
 -- What the reader keeps is that of the recording's open transfer, and it is small.
-use Rattle.std.proofs.Common.{◌≡◌, ℕ, zero, suc, ◌+◌, ◌*◌, ◌^◌, ◌<◌, ◌≤◌, Bool, true, false, not, cond, List, [], ◌∷◌, length, Some, None, Option, option_map, refl, ap, arith, add-one, ltb, ◌&&◌, rules, le_of_suc-le-suc, not-suc-le-zero, pow_pos}
+use Rattle.std.proofs.Common.{◌≡◌, ℕ, zero, suc, ◌+◌, ◌*◌, ◌^◌, ◌<◌, ◌≤◌, Bool, true, false, not, cond, List, [], ◌∷◌, length, Some, None, Option, option_map, refl, ap, arith, add-one, ltb, rules, le_of_suc-le-suc, not-suc-le-zero, pow_pos}
 use Rattle.std.proofs.lemmas.Bool.{lt-ltb, ne_eqb}
 use Rattle.board.specs.Samples.{bit_value}
 use Rattle.std.specs.Prelude.{◌==◌}
-use Rattle.board.specs.Wires.{address, some_byte, all_acked, is_clean, Edge, steady, started, stopped, rose, fell, edge, Transfer, Byte, value, reading, acked_by, risen_by, next}
+use Rattle.board.specs.Wires.{address, some_byte, Edge, steady, started, stopped, rose, fell, edge, Transfer, Byte, value, risen_by, next}
 use Rattle.reader.specs.declared.transfer.Transfer.{Transfer as Record}
-use Rattle.reader.specs.Kept.{kept_of, kept_risen_by, kept_next, kept_address, kept_clean, AllSmall}
+use Rattle.reader.specs.Kept.{kept_of, kept_risen_by, kept_next, kept_address, AllSmall}
 use Rattle.reader.specs.Reading.{prolonged}
 use Rattle.reader.specs.Transfers.{address_of}
 use Rattle.reader.specs.Steps.{kept_prolonged}
-
--- in a recording a ninth bit that is LOW is a pull, so a byte is acknowledged by its bit whoever gave it
-acked_same : (reads bit : Bool) (v : ℕ) → acked_by reads (record { value = v; low = not bit; pulled = not bit }) ≡ not bit
-acked_same true bit v = refl
-acked_same false bit v = refl
 
 whole : (bit : Bool) (bs : List Byte) (v : ℕ) → cond (length bs == 0) v (address bs) ≡ address (record { value = v; low = not bit; pulled = not bit } ∷ bs)
 whole bit [] v = refl
@@ -21,7 +16,7 @@ whole bit (x ∷ bs) v = rw (ne_eqb (suc (length bs)) 0 (λ z. omega (arith, z))
 
 risen_kept : (small bit : Bool) (t : Transfer) → kept_risen_by small bit (kept_of t) ≡ kept_of (risen_by small bit (not bit) t)
 risen_kept true bit t = rw add-one refl
-risen_kept false bit t = rw add-one (rw (whole bit t.bytes (value t.bits)) (rw (acked_same (reading t.bytes) bit (value t.bits)) refl))
+risen_kept false bit t = rw add-one (rw (whole bit t.bytes (value t.bits)) refl)
 
 pub next_kept : (scl scl' sda sda' : Bool) (o : Option Transfer) → kept_next (edge scl scl' sda sda') (option_map kept_of o) ≡ option_map kept_of (next (edge scl scl' sda sda') (not sda') o)
 next_kept true true true true o = refl
@@ -40,13 +35,6 @@ address_kept t = by_bytes t.bytes
     by_bytes : (bs : List Byte) → cond (ltb 0 (length bs)) (address bs) (cond (length t.bits == 8) (value t.bits) 0) ≡ cond (some_byte bs) (address bs) (cond (length t.bits == 8) (value t.bits) 0)
     by_bytes [] = refl
     by_bytes (x ∷ bs) = rw (lt-ltb 0 (suc (length bs)) (omega arith)) refl
-
-some_kept : (bs : List Byte) → ltb 0 (length bs) ≡ some_byte bs
-some_kept [] = refl
-some_kept (x ∷ bs) = lt-ltb 0 (suc (length bs)) (omega arith)
-
-pub clean_kept : (t : Transfer) → kept_clean (kept_of t) ≡ is_clean t
-clean_kept t = ap (λ b. (length t.bits == 1) && (b && all_acked t.bytes)) (some_kept t.bytes)
 
 pub prolonged_all : (n : ℕ) (t : Transfer) → kept_prolonged n (kept_of t) ≡ prolonged n t
 prolonged_all n t = ap (λ a (r : Record). record { first = r.first; last = n; address = a; ninths = length t.bytes; clean = false }) (address_kept t)

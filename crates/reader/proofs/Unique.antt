@@ -2,7 +2,7 @@
 use Rattle.std.proofs.Common.{◌≡◌, ℕ, zero, suc, ◌+◌, ◌-◌, ◌<◌, ◌≤◌, Bool, ◌&&◌, List, [], length, Some, None, Option, sym, ap, ◌∙◌, subst, inl, inr, arith}
 use Rattle.std.proofs.lemmas.Bool.{cases_lt, cases_eq}
 use Rattle.std.proofs.lemmas.List.{ext_get_or}
-use Rattle.board.specs.Wires.{Edge, Transfer as Open, transfer, is_clean}
+use Rattle.board.specs.Wires.{Edge, Transfer as Open, transfer}
 use Rattle.reader.specs.declared.transfer.Transfer.{Transfer}
 use Rattle.reader.specs.Transfers.{address_of, is_stop, Shows, IsTransfer, no_transfer, at, Reads}
 
@@ -13,9 +13,9 @@ the (Some t) = t
 abbrev made : ℕ → ℕ → ℕ → ℕ → Bool → Transfer
 made f l a k c = record { first = f; last = l; address = a; ninths = k; clean = c }
 
-module _ (edges : ℕ → Edge) (opens : ℕ → Option Open) (n : ℕ) where
+module _ (edges : ℕ → Edge) (opens : ℕ → Option Open) (cleans : ℕ → Bool) (n : ℕ) where
   abbrev Is : Transfer → Type 0
-  Is r = IsTransfer edges opens n r
+  Is r = IsTransfer edges opens cleans n r
 
   -- two transfers with the same first sample have the same last one
   not_before : (r s : Transfer) → Is r → Is s → r.first ≡ s.first → r.last < s.last → ⊥
@@ -54,7 +54,7 @@ module _ (edges : ℕ → Edge) (opens : ℕ → Option Open) (n : ℕ) where
           | inl d ↦ (
               let o : Some c.t ≡ Some d.t = sym c.opened ∙ ap opens l ∙ d.opened in
               let m = same_numbers r s c.t d.t o c.shows d.shows in
-              record_same r s e l m.0 m.1 (c.clean ∙ ap (λ v. is_stop (edges v) && is_clean c.t) l ∙ ap (λ v. is_stop (edges s.last) && is_clean (the v)) o ∙ sym d.clean))
+              record_same r s e l m.0 m.1 (c.clean ∙ ap (λ v. is_stop (edges v) && cleans v) l ∙ sym d.clean))
           | inr d ↦ absurd (let later = c.later in let within = p.within in d.on r.last (omega arith) within c.bounds)
         ]
         | inr c ↦ elim q.ends [
@@ -67,7 +67,7 @@ module _ (edges : ℕ → Edge) (opens : ℕ → Option Open) (n : ℕ) where
       ]
 
   -- the firsts rise over any distance
-  far : (a : List Transfer) → Reads edges opens n a → (d i : ℕ) → suc (d + i) < length a → (at a i).first < (at a (suc (d + i))).first
+  far : (a : List Transfer) → Reads edges opens cleans n a → (d i : ℕ) → suc (d + i) < length a → (at a i).first < (at a (suc (d + i))).first
   far a p zero i h = let z : suc (0 + i) ≡ suc i = omega arith in subst (λ j. (at a i).first < (at a j).first) (sym z) (p.rising i (omega arith))
   far a p (suc d) i h =
       let one = far a p d i (omega arith) in
@@ -75,19 +75,19 @@ module _ (edges : ℕ → Edge) (opens : ℕ → Option Open) (n : ℕ) where
       let z : suc (suc (d + i)) ≡ suc (suc d + i) = omega arith in
       subst (λ j. (at a i).first < (at a j).first) z (omega arith)
 
-  above : (a : List Transfer) → Reads edges opens n a → (i j : ℕ) → i < j → j < length a → (at a i).first < (at a j).first
+  above : (a : List Transfer) → Reads edges opens cleans n a → (i j : ℕ) → i < j → j < length a → (at a i).first < (at a j).first
   above a p i j lt h =
       let z : suc ((j - suc i) + i) ≡ j = omega arith in
       subst (λ m. (at a i).first < (at a m).first) z (far a p (j - suc i) i (omega arith))
 
-  not_above : (a : List Transfer) → Reads edges opens n a → (i j : ℕ) → i ≤ j → j < length a → (at a i).first ≤ (at a j).first
+  not_above : (a : List Transfer) → Reads edges opens cleans n a → (i j : ℕ) → i ≤ j → j < length a → (at a i).first ≤ (at a j).first
   not_above a p i j le h = elim (cases_eq i j) [
     | inl e ↦ subst (λ m. (at a i).first ≤ (at a m).first) e (omega arith)
     | inr d ↦ (let z : i ≡ j → ⊥ = d in let lt = above a p i j (omega arith) h in omega arith)
   ]
 
   -- where all before place m have the same firsts, the one at m begins no later
-  no_later : (a b : List Transfer) → Reads edges opens n a → Reads edges opens n b → (m : ℕ) → ((k : ℕ) → k < m → (at a k).first ≡ (at b k).first)
+  no_later : (a b : List Transfer) → Reads edges opens cleans n a → Reads edges opens cleans n b → (m : ℕ) → ((k : ℕ) → k < m → (at a k).first ≡ (at b k).first)
       → m < length a → m < length b → (at b m).first ≤ (at a m).first
   no_later a b p q m before ha hb =
       let r = p.each m ha in
@@ -97,7 +97,7 @@ module _ (edges : ℕ → Edge) (opens : ℕ → Option Open) (n : ℕ) where
         | inr ge ↦ (let le = not_above b q m f.0 ge f.1.0 in let g = f.1.1 in omega arith)
       ]
 
-  firsts : (a b : List Transfer) → Reads edges opens n a → Reads edges opens n b → (m k : ℕ) → k < m → k < length a → k < length b → (at a k).first ≡ (at b k).first
+  firsts : (a b : List Transfer) → Reads edges opens cleans n a → Reads edges opens cleans n b → (m k : ℕ) → k < m → k < length a → k < length b → (at a k).first ≡ (at b k).first
   firsts a b p q zero k lt ha hb = absurd (omega arith)
   firsts a b p q (suc m) k lt ha hb = elim (cases_lt k m) [
     | inl less ↦ firsts a b p q m k less ha hb
@@ -109,7 +109,7 @@ module _ (edges : ℕ → Edge) (opens : ℕ → Option Open) (n : ℕ) where
         omega arith)
   ]
 
-  not_shorter : (a b : List Transfer) → Reads edges opens n a → Reads edges opens n b → length a < length b → ⊥
+  not_shorter : (a b : List Transfer) → Reads edges opens cleans n a → Reads edges opens cleans n b → length a < length b → ⊥
   not_shorter a b p q lt =
       let k = length a in
       let r = q.each k lt in
@@ -120,7 +120,7 @@ module _ (edges : ℕ → Edge) (opens : ℕ → Option Open) (n : ℕ) where
       let g = f.1.1 in
       omega arith
 
-  pub unique : (a b : List Transfer) → Reads edges opens n a → Reads edges opens n b → a ≡ b
+  pub unique : (a b : List Transfer) → Reads edges opens cleans n a → Reads edges opens cleans n b → a ≡ b
   unique a b p q =
       let long : length a ≡ length b = elim (cases_lt (length a) (length b)) [
         | inl lt ↦ absurd (not_shorter a b p q lt)

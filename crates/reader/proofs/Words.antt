@@ -3,12 +3,13 @@ use Rattle.std.proofs.Common.{◌≡◌, ℕ, zero, suc, ◌<◌, ◌≤◌, Boo
 use Rattle.std.proofs.Math.Nat.{eq-or-lt_of_le}
 use Rattle.std.proofs.lemmas.Bool.{cases_lt}
 use Rattle.std.proofs.lemmas.List.{length-append, get_or_append_left, get_or_at}
-use Rattle.board.specs.Wires.{Edge, steady, started, stopped, rose, fell, Transfer as Open, transfer, next, risen, is_clean}
+use Rattle.board.specs.Wires.{Edge, steady, started, stopped, rose, fell, Transfer as Open, transfer, next, risen}
 use Rattle.reader.specs.declared.transfer.Transfer.{Transfer}
 use Rattle.reader.specs.Read.{transfers, Exactly}
-use Rattle.reader.specs.Recording.{sda_after, edge_at, open_after}
+use Rattle.reader.specs.Recording.{sda_after, edge_at, open_after, clean_at, clean_shown}
 use Rattle.reader.specs.Transfers.{is_stop, Bounds, Shows, IsTransfer, no_transfer, at, Reads}
 use Rattle.reader.specs.Reading.{opened as new_row, prolonged, ended, with_last, grown, rows_after}
+use Rattle.reader.proofs.Rises.{clean_told}
 use Rattle.reader.proofs.Unique.{unique}
 
 -- rows with one more at their end
@@ -70,7 +71,7 @@ unbound e z (inr s) = let q : 0 ≡ 2 = sym z ∙ ap tag s in omega (arith, q)
 stop_start : (e : Edge) → e ≡ stopped → e ≡ started → ⊥
 stop_start e s t = let q : 2 ≡ 1 = ap tag (sym s ∙ t) in omega (arith, q)
 
-module _ (edges : ℕ → Edge) (opens : ℕ → Option Open) where
+module _ (edges : ℕ → Edge) (opens : ℕ → Option Open) (cleans : ℕ → Bool) (judged : (n : ℕ) (t : Open) → opens n ≡ Some t → clean_shown t ≡ cleans n) where
   -- a transfer that has ended
   record Past (r : Transfer) : Type 0 where
     starts : edges r.first ≡ started
@@ -80,7 +81,7 @@ module _ (edges : ℕ → Edge) (opens : ℕ → Option Open) where
     t : Open
     its : opens r.last ≡ Some t
     shows : Shows r t
-    clean : r.clean ≡ (is_stop (edges r.last) && is_clean t)
+    clean : r.clean ≡ (is_stop (edges r.last) && cleans r.last)
 
   -- these end before sample k, and are all that start before sample m
   record Kept (m k : ℕ) (rows : List Transfer) : Type 0 where
@@ -201,7 +202,7 @@ module _ (edges : ℕ → Edge) (opens : ℕ → Option Open) where
       }
 
   -- or ended by a START or a STOP
-  past_under : (n : ℕ) (rows : List Transfer) (c : Bool) (h : Under n rows) → Bounds (edges n) → c ≡ (is_stop (edges n) && is_clean h.t) → Past (ended n c h.r)
+  past_under : (n : ℕ) (rows : List Transfer) (c : Bool) (h : Under n rows) → Bounds (edges n) → c ≡ (is_stop (edges n) && cleans n) → Past (ended n c h.r)
   past_under n rows c h b e =
       let order = h.order in
       let at_end = h.at_end in
@@ -231,7 +232,7 @@ module _ (edges : ℕ → Edge) (opens : ℕ → Option Open) where
       let k = kept_under n n rows false h p (omega arith) (λ s. omega arith) in
       begun n _ e o (subst (Kept n (suc n)) (sym (with_last_under n rows (ended n false) h)) k)
 
-  stopped_under : (n : ℕ) (rows : List Transfer) (c : Bool) (h : Under n rows) → edges n ≡ stopped → opens (suc n) ≡ None → c ≡ is_clean h.t → Quiet (suc n) (with_last (ended n c) rows)
+  stopped_under : (n : ℕ) (rows : List Transfer) (c : Bool) (h : Under n rows) → edges n ≡ stopped → opens (suc n) ≡ None → c ≡ cleans n → Quiet (suc n) (with_last (ended n c) rows)
   stopped_under n rows c h e o is =
       let p = past_under n rows c h (inr e) (rw e is) in
       let k = kept_under (suc n) n rows c h p (omega arith) (λ s. absurd (stop_start _ e s)) in
@@ -241,7 +242,7 @@ module _ (edges : ℕ → Edge) (opens : ℕ → Option Open) where
       → opens (suc n) ≡ next e pulled (Some t) → Tale (suc n) (grown e n (Some t) (opens (suc n)) rows)
   under_step n rows steady pulled t h same e o = rw o (inr (calm_under n rows t (unbound _ (ap tag e)) o h))
   under_step n rows started pulled t h same e o = inr (started_under n rows e o h)
-  under_step n rows stopped pulled t h same e o = inl (stopped_under n rows (is_clean t) h e o (ap is_clean same))
+  under_step n rows stopped pulled t h same e o = inl (stopped_under n rows (clean_shown t) h e o (ap clean_shown same ∙ judged n h.t h.its))
   under_step n rows (rose bit) pulled t h same e o = rw o (inr (calm_under n rows (risen bit pulled t) (unbound _ (ap tag e)) o h))
   under_step n rows fell pulled t h same e o = rw o (inr (calm_under n rows t (unbound _ (ap tag e)) o h))
 
@@ -250,7 +251,7 @@ module _ (edges : ℕ → Edge) (opens : ℕ → Option Open) where
   step n rows pulled o (inr h) = rw h.its (under_step n rows (edges n) pulled h.t h refl refl (o ∙ ap (next (edges n) pulled) h.its))
 
   -- what the rows so kept are
-  past_is : (n : ℕ) (r : Transfer) → Past r → r.last < n → IsTransfer edges opens n r
+  past_is : (n : ℕ) (r : Transfer) → Past r → r.last < n → IsTransfer edges opens cleans n r
   past_is n r p within =
       let later = p.later in
       record {
@@ -261,7 +262,7 @@ module _ (edges : ℕ → Edge) (opens : ℕ → Option Open) where
         ends = inl (record { later = later; bounds = p.bounds; t = p.t; opened = p.its; shows = p.shows; clean = p.clean });
       }
 
-  under_is : (n : ℕ) (rows : List Transfer) (h : Under n rows) → IsTransfer edges opens n h.r
+  under_is : (n : ℕ) (rows : List Transfer) (h : Under n rows) → IsTransfer edges opens cleans n h.r
   under_is n rows h =
       let order = h.order in
       let at_end = h.at_end in
@@ -273,7 +274,7 @@ module _ (edges : ℕ → Edge) (opens : ℕ → Option Open) where
         ends = inr (record { at_end = at_end; on = h.on; t = h.t; opened = h.its; shows = h.shows; clean = h.clean });
       }
 
-  told : (n : ℕ) (rows : List Transfer) → Tale n rows → Reads edges opens n rows
+  told : (n : ℕ) (rows : List Transfer) → Tale n rows → Reads edges opens cleans n rows
   told n rows (inl q) = record {
     each = λ i lt. (let e = q.kept.each i lt in past_is n (at rows i) e.0 e.1);
     rising = q.kept.rising;
@@ -284,8 +285,8 @@ module _ (edges : ℕ → Edge) (opens : ℕ → Option Open) where
       let r = h.r in
       let order = h.order in
       let at_end = h.at_end in
-      subst (Reads edges opens n) (sym h.is) (record {
-        each = each_more (IsTransfer edges opens n) h.done r (λ i lt. (let e = k.each i lt in past_is n (at h.done i) e.0 (omega (arith, e.1, order, at_end)))) (under_is n rows h);
+      subst (Reads edges opens cleans n) (sym h.is) (record {
+        each = each_more (IsTransfer edges opens cleans n) h.done r (λ i lt. (let e = k.each i lt in past_is n (at h.done i) e.0 (omega (arith, e.1, order, at_end)))) (under_is n rows h);
         rising = rising_more h.done r k.rising (λ i lt. (let e = k.each i lt in let later = e.0.later in omega (arith, e.1, later)));
         all = λ j lt s. elim (cases_lt j r.first) [
           | inl before ↦ found_old h.done r j (k.all j before s)
@@ -303,12 +304,12 @@ module _ (edges : ℕ → Edge) (opens : ℕ → Option Open) where
     tale zero = inl (record { none = from; kept = rw first kept_none })
     tale (suc n) = subst (Tale (suc n)) (sym (grows n)) (step n (rows n) (pulled n) (onward n) (tale n))
 
-    pub grown_reads : (n : ℕ) → Reads edges opens n (rows n)
+    pub grown_reads : (n : ℕ) → Reads edges opens cleans n (rows n)
     grown_reads n = told n (rows n) (tale n)
 
-pub reads : (xs : List ℕ) (n : ℕ) → Reads (edge_at xs) (open_after xs) n (rows_after xs n)
-reads xs n = grown_reads (edge_at xs) (open_after xs) (λ j. not (sda_after xs (suc j))) (rows_after xs) refl (λ j. refl) refl (λ j. refl) n
+pub reads : (xs : List ℕ) (n : ℕ) → Reads (edge_at xs) (open_after xs) (clean_at xs) n (rows_after xs n)
+reads xs n = grown_reads (edge_at xs) (open_after xs) (clean_at xs) (clean_told xs) (λ j. not (sda_after xs (suc j))) (rows_after xs) refl (λ j. refl) refl (λ j. refl) n
 
 pub exactly : (xs : List ℕ) → Exactly xs (transfers xs)
 unfolding Exactly
-exactly xs = let here = reads xs (length xs) in (here, λ others there. unique (edge_at xs) (open_after xs) (length xs) others (transfers xs) there here)
+exactly xs = let here = reads xs (length xs) in (here, λ others there. unique (edge_at xs) (open_after xs) (clean_at xs) (length xs) others (transfers xs) there here)

@@ -6,16 +6,17 @@ use Rattle.board.specs.declared.call.Call.{Call}
 use Rattle.board.specs.declared.call.Call.TheVariants.{Sample}
 use Rattle.board.specs.Engine.{idle_bus}
 use Rattle.board.specs.Samples.{bit_value}
-use Rattle.board.specs.Wires.{Byte, Transfer as Open, sending}
+use Rattle.board.specs.Wires.{Byte, Transfer as Open, all_acked, sending, clean}
 use Rattle.board.specs.Runs.{state, history, edge_at as run_edge}
 use Rattle.reader.specs.declared.transfer.Transfer.{Transfer}
-use Rattle.reader.specs.Recording.{edge_at, open_after}
+use Rattle.reader.specs.Recording.{edge_at, open_after, clean_at}
 use Rattle.reader.specs.Transfers.{at, Reads}
 
--- a byte that no part gave, and that none acknowledged, has a LOW ninth bit: a master held it; all bytes before it are acknowledged
-abbrev pub MasterHeld : List Byte → Type 0
-MasterHeld [] = ⊥
-MasterHeld (x ∷ bs) = ((sending bs ≡ true) × (x.low ≡ true) × (x.pulled ≡ false)) ⊎ MasterHeld bs
+-- The last whole byte has a LOW ninth bit, and the run did not acknowledge it: a byte before it was not acknowledged, so that the parts are
+-- deaf, or it was sent and no part pulled.
+abbrev pub HeldLow : List Byte → Type 0
+HeldLow [] = ⊥
+HeldLow (x ∷ bs) = (x.low ≡ true) × ((all_acked bs ≡ false) ⊎ ((sending bs ≡ true) × (x.pulled ≡ false)))
 
 module _ {S : Type 0} (ops : Ops S) (b : Board S) (samples : ℕ → ℕ) where
   -- the run of these samples
@@ -30,22 +31,22 @@ module _ {S : Type 0} (ops : Ops S) (b : Board S) (samples : ℕ → ℕ) where
   ongoing_at n = (history ops b calls n).ongoing
 
   -- A record of the recording, r, and one of the run, s: the same, but that r may call a STOP clean which is not,
-  -- where a master held the ninth bit of a byte.
+  -- where the last whole byte has a LOW ninth bit that is no ACK in the run.
   pub record Alike (r s : Transfer) : Type 0 where
     pub first : r.first ≡ s.first
     pub last : r.last ≡ s.last
     pub address : r.address ≡ s.address
     pub ninths : r.ninths ≡ s.ninths
-    pub clean : (r.clean ≡ s.clean) ⊎ ((r.clean ≡ true) × (s.clean ≡ false) × ((t : Open) × ((ongoing_at r.last ≡ Some t) × MasterHeld t.bytes)))
+    pub clean : (r.clean ≡ s.clean) ⊎ ((r.clean ≡ true) × (s.clean ≡ false) × ((t : Open) × ((ongoing_at r.last ≡ Some t) × HeldLow t.bytes)))
 
   -- the transfers of the run's first n samples, beside those read from its recording
   pub record Agrees (n : ℕ) (rows : List Transfer) : Type 0 where
     pub own : List Transfer
-    pub reads : Reads (run_edge ops b calls) ongoing_at n own
+    pub reads : Reads (run_edge ops b calls) ongoing_at (λ j. clean (ongoing_at j)) n own
     pub many : length rows ≡ length own
     pub alike : (i : ℕ) → i < length rows → Alike (at rows i) (at own i)
 
 -- For every run of samples from idle wires: both HIGH, no transfer open.
 unfoldable pub ReadsRuns : {S : Type 0} → Ops S → Type 0
 ReadsRuns {S} ops = (b : Board S) → b.bus ≡ idle_bus → (samples : ℕ → ℕ) (n : ℕ) (xs : List ℕ) → Records ops b samples n xs →
-    (rows : List Transfer) → Reads (edge_at xs) (open_after xs) n rows → Agrees ops b samples n rows
+    (rows : List Transfer) → Reads (edge_at xs) (open_after xs) (clean_at xs) n rows → Agrees ops b samples n rows

@@ -6,7 +6,7 @@ use Rattle.rows.specs.declared.row.Row.{Row}
 use Rattle.rows.specs.Rows.{Grown}
 use Rattle.reader.specs.declared.transfer.Transfer.{Transfer}
 use Rattle.reader.specs.Reading.{rows_after}
-use Rattle.reader.specs.Recording.{edge_at, open_after}
+use Rattle.reader.specs.Recording.{edge_at, open_after, clean_at}
 use Rattle.reader.specs.Transfers.{Reads}
 
 -- no byte has bit 5, 6 or 7 set
@@ -18,7 +18,7 @@ transfers xs = rows_after xs (length xs)
 
 -- in the words of the wires: the rows are the transfers of the recording, in order, each once
 abbrev pub ReadsAll : List ℕ → List Transfer → Type 0
-ReadsAll xs rows = Reads (edge_at xs) (open_after xs) (length xs) rows
+ReadsAll xs rows = Reads (edge_at xs) (open_after xs) (clean_at xs) (length xs) rows
 
 -- and no other list is
 unfoldable pub Exactly : List ℕ → List Transfer → Type 0

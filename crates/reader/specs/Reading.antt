@@ -1,8 +1,8 @@
 -- How a row of transfers grows with each sample of a recording.
 use Rattle.std.specs.Prelude.{ℕ, zero, suc, List, [], ◌∷◌, ◌++◌, length, false, Bool, Some, None, Option}
-use Rattle.board.specs.Wires.{Edge, steady, started, stopped, rose, fell, Transfer as Open, is_clean}
+use Rattle.board.specs.Wires.{Edge, steady, started, stopped, rose, fell, Transfer as Open}
 use Rattle.reader.specs.declared.transfer.Transfer.{Transfer}
-use Rattle.reader.specs.Recording.{edge_at, open_after}
+use Rattle.reader.specs.Recording.{edge_at, open_after, clean_shown}
 use Rattle.reader.specs.Transfers.{address_of}
 
 -- a transfer of which no more than its START has come
@@ -37,7 +37,7 @@ ending n (Some t) clean rows = with_last (ended n (clean t)) rows
 abbrev pub grown : Edge → ℕ → Option Open → Option Open → List Transfer → List Transfer
 grown steady n before after rows = going_on n before after rows
 grown started n before after rows = ending n before (λ t. false) rows ++ (opened n ∷ [])
-grown stopped n before after rows = ending n before is_clean rows
+grown stopped n before after rows = ending n before clean_shown rows
 grown (rose bit) n before after rows = going_on n before after rows
 grown fell n before after rows = going_on n before after rows
 

@@ -1,7 +1,7 @@
 -- A recording of the wires: sample bytes of which bit 0 is SCL and bit 1 is SDA as it was on the wire.
-use Rattle.std.specs.Prelude.{ℕ, zero, suc, ◌/◌, Bool, true, not, List, None, Option, slice_index_or}
+use Rattle.std.specs.Prelude.{ℕ, zero, suc, ◌/◌, ◌%◌, Bool, true, false, not, ◌&&◌, List, [], ◌∷◌, length, None, Option, ◌==◌, slice_index_or}
 use Rattle.board.specs.Samples.{odd}
-use Rattle.board.specs.Wires.{Edge, edge, Transfer, next}
+use Rattle.board.specs.Wires.{Edge, steady, started, stopped, rose, fell, edge, Byte, Transfer, next}
 
 -- the two wires after n samples; before the first both count as HIGH
 abbrev pub scl_after : List ℕ → ℕ → Bool
@@ -20,3 +20,40 @@ edge_at xs n = edge (scl_after xs n) (scl_after xs (suc n)) (sda_after xs n) (sd
 abbrev pub open_after : List ℕ → ℕ → Option Transfer
 open_after xs zero = None
 open_after xs (suc n) = next (edge_at xs n) (not (sda_after xs (suc n))) (open_after xs n)
+
+-- the bits of the rises since the newest START, after n samples; the newest is first
+abbrev pub with_rise : Edge → List Bool → List Bool
+with_rise steady ws = ws
+with_rise started ws = []
+with_rise stopped ws = ws
+with_rise (rose bit) ws = bit ∷ ws
+with_rise fell ws = ws
+
+abbrev pub rises_after : List ℕ → ℕ → List Bool
+rises_after xs zero = []
+rises_after xs (suc n) = with_rise (edge_at xs n) (rises_after xs n)
+
+-- SDA was LOW at the last of some rises, and at the last but one
+abbrev pub last_is_low : List Bool → Bool
+last_is_low [] = false
+last_is_low (bit ∷ ws) = not bit
+
+abbrev pub last_but_one_is_low : List Bool → Bool
+last_but_one_is_low [] = false
+last_but_one_is_low (bit ∷ ws) = last_is_low ws
+
+-- A STOP is clean where exactly one rise lies after a ninth rise with SDA LOW, whatever the ninth rises before it showed.
+abbrev pub clean_rises : List Bool → Bool
+clean_rises ws = (length ws % 9 == 1) && last_but_one_is_low ws
+
+-- a STOP at sample n would be clean
+abbrev pub clean_at : List ℕ → ℕ → Bool
+clean_at xs n = clean_rises (rises_after xs n)
+
+-- the same of an open transfer: its last whole byte has a LOW ninth bit, and one bit came since
+abbrev pub last_acked : List Byte → Bool
+last_acked [] = false
+last_acked (x ∷ bs) = x.low
+
+abbrev pub clean_shown : Transfer → Bool
+clean_shown t = (length t.bits == 1) && last_acked t.bytes

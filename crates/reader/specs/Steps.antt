@@ -2,13 +2,13 @@
 use Rattle.std.specs.Prelude.{◌≡◌, ℕ, zero, suc, false, List, [], ◌∷◌, ◌++◌, Some, None, Option, option_map, slice_index_or}
 use Rattle.rows.specs.declared.row.Row.{Row}
 use Rattle.rows.specs.Rows.{Grown}
-use Rattle.board.specs.Wires.{Edge, Transfer as Open, edge, is_clean}
+use Rattle.board.specs.Wires.{Edge, Transfer as Open, edge}
 use Rattle.reader.specs.declared.kept.Kept.{Kept}
 use Rattle.reader.specs.declared.reader.Reader.{Reader}
 use Rattle.reader.specs.declared.transfer.Transfer.{Transfer}
 use Rattle.reader.specs.Kept.{kept_of, kept_address, kept_next, wires_at}
 use Rattle.reader.specs.Reading.{opened, with_last, going_on, ending, grown}
-use Rattle.reader.specs.Recording.{open_after}
+use Rattle.reader.specs.Recording.{open_after, clean_shown}
 use Rattle.reader.specs.Transfers.{Shows}
 
 -- the last of n samples; before the first both wires count as HIGH
@@ -60,7 +60,7 @@ module _ (n : ℕ) (before : Option Kept) (old new : Row Transfer) where
   Reaches = (t : Option Open) → before ≡ option_map kept_of t → (start : Row Transfer) (rows : List Transfer) → HasLast t rows → Grown start rows old → Grown start (ending n t (λ t. false) rows) new
 
   abbrev pub Stopped : Type 0
-  Stopped = (t : Option Open) → before ≡ option_map kept_of t → (start : Row Transfer) (rows : List Transfer) → HasLast t rows → Grown start rows old → Grown start (ending n t is_clean rows) new
+  Stopped = (t : Option Open) → before ≡ option_map kept_of t → (start : Row Transfer) (rows : List Transfer) → HasLast t rows → Grown start rows old → Grown start (ending n t clean_shown rows) new
 
 module _ (n : ℕ) (before after : Option Kept) (old new : Row Transfer) where
   -- a row that stands for the records after some sample stands after sample n for what becomes of them

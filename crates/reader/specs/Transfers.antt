@@ -1,7 +1,8 @@
 -- Transfers on two wires: each lies from a START to the next START or STOP, or to the end. What lies between sample j and the one before it
--- is `edges j`, and the open transfer after j samples is `opens j`: of a recording, or of a run of a board.
+-- is `edges j`, the open transfer after j samples is `opens j`, and `cleans j` says whether a STOP at sample j is clean: of a recording, or
+-- of a run of a board. A recording takes each LOW ninth bit for an ACK, and a board does not.
 use Rattle.std.specs.Prelude.{◌≡◌, ℕ, suc, ◌<◌, ◌≤◌, Bool, true, false, cond, ◌&&◌, ◌⊎◌, List, length, Some, Option, ◌==◌, slice_index_or}
-use Rattle.board.specs.Wires.{Edge, steady, started, stopped, rose, fell, Transfer as Open, some_byte, address, value, is_clean}
+use Rattle.board.specs.Wires.{Edge, steady, started, stopped, rose, fell, Transfer as Open, some_byte, address, value}
 use Rattle.reader.specs.declared.transfer.Transfer.{Transfer}
 
 -- the address byte: whole at its eighth rise, and 0 before
@@ -23,7 +24,7 @@ Bounds e = (e ≡ started) ⊎ (e ≡ stopped)
 abbrev pub Shows : Transfer → Open → Type 0
 Shows r t = (r.address ≡ address_of t) × (r.ninths ≡ length t.bytes)
 
-module _ (edges : ℕ → Edge) (opens : ℕ → Option Open) (n : ℕ) (r : Transfer) where
+module _ (edges : ℕ → Edge) (opens : ℕ → Option Open) (cleans : ℕ → Bool) (n : ℕ) (r : Transfer) where
   -- its last sample is the next START or STOP
   pub record Closed : Type 0 where
     pub later : r.first < r.last
@@ -31,7 +32,7 @@ module _ (edges : ℕ → Edge) (opens : ℕ → Option Open) (n : ℕ) (r : Tra
     pub t : Open
     pub opened : opens r.last ≡ Some t
     pub shows : Shows r t
-    pub clean : r.clean ≡ (is_stop (edges r.last) && is_clean t)
+    pub clean : r.clean ≡ (is_stop (edges r.last) && cleans r.last)
 
   -- it is left open, and ends with the last sample
   pub record LeftOpen : Type 0 where
@@ -58,7 +59,7 @@ abbrev pub at : List Transfer → ℕ → Transfer
 at rows i = slice_index_or rows i no_transfer
 
 -- The rows are exactly the transfers of the first n samples, in order, each once.
-pub record Reads (edges : ℕ → Edge) (opens : ℕ → Option Open) (n : ℕ) (rows : List Transfer) : Type 0 where
-  pub each : (i : ℕ) → i < length rows → IsTransfer edges opens n (at rows i)
+pub record Reads (edges : ℕ → Edge) (opens : ℕ → Option Open) (cleans : ℕ → Bool) (n : ℕ) (rows : List Transfer) : Type 0 where
+  pub each : (i : ℕ) → i < length rows → IsTransfer edges opens cleans n (at rows i)
   pub rising : (i : ℕ) → suc i < length rows → (at rows i).first < (at rows (suc i)).first
   pub all : (j : ℕ) → j < n → edges j ≡ started → (i : ℕ) × ((i < length rows) × ((at rows i).first ≡ j))

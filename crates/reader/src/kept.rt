@@ -5,7 +5,7 @@ ghost use Rattle.reader.specs.Kept.{Small, AllSmall, edge_of, kept_new, kept_ris
 use super::wires::Edge;
 
 // The bits since the last whole byte by their count and their number, the whole bytes by their count, the address byte and
-// whether every one of them was acknowledged. A recording shows an ACK, whoever gave it, as a LOW ninth bit.
+// whether the last of them was acknowledged; before the first that is false. A recording shows an ACK, whoever gave it, as a LOW ninth bit.
 #[derive(Clone, Copy)]
 pub(crate) struct Kept {
     pub ninths: usize,
@@ -24,7 +24,7 @@ impl Kept {
             value: 0,
             ninths: 0,
             address: 0,
-            acked: true,
+            acked: false,
         }
     }
 
@@ -49,7 +49,7 @@ impl Kept {
                 } else {
                     self.address
                 },
-                acked: self.acked && !bit,
+                acked: !bit,
             }
         }
     }
@@ -78,7 +78,7 @@ impl Kept {
     pub(crate) fn is_clean(&self) -> bool
         ensures { result ≡ kept_clean self.now }
     {
-        self.bits == 1 && self.ninths > 0 && self.acked
+        self.bits == 1 && self.acked
     }
 }
 
