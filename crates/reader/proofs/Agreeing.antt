@@ -131,6 +131,15 @@ and_judged false p q H j = inl refl
 clean_judged : (u t : Open) → u.bits ≡ t.bits → Twins u.bytes t.bytes → Judged (clean_shown u) (is_clean t) (HeldLow t.bytes)
 clean_judged u t bits bytes = rw bits (and_judged (eqb (length t.bits) 1) _ _ _ (bytes_judged u.bytes t.bytes bytes))
 
+held_acked : (cs bs : List Byte) → Twins cs bs → HeldLow bs → last_acked cs ≡ true
+held_acked [] [] s h = absurd h
+held_acked [] (x ∷ bs) s h = absurd s
+held_acked (y ∷ cs) [] s h = absurd s
+held_acked (y ∷ cs) (x ∷ bs) s h = s.0.low ∙ h.0
+
+held_clean : (u t : Open) → u.bits ≡ t.bits → Twins u.bytes t.bytes → length t.bits ≡ 1 → HeldLow t.bytes → clean_shown u ≡ true
+held_clean u t bits bytes one h = rw (bits, one) (held_acked u.bytes t.bytes bytes h)
+
 same_address_of : (u t : Open) → u.bits ≡ t.bits → Twins u.bytes t.bytes → address_of u ≡ address_of t
 same_address_of u t bits bytes = rw (bits, same_some u.bytes t.bytes bytes, same_address u.bytes t.bytes bytes) refl
 
@@ -239,6 +248,7 @@ module _ {S : Type 0} (ops : Ops S) where
         let stops = is_stop (E r.last) in
         let so : r.clean ≡ (stops && clean_shown c.t) = c.clean ∙ ap (λ k. is_stop k && clean_at xs r.last) e ∙ ap (λ q. stops && q) (sym (clean_told xs r.last c.t c.opened)) in
         let j = and_judged stops _ _ _ (clean_judged c.t t g.1 g.2) in
+        let same : (o : Open) → O r.last ≡ Some o → t ≡ o = λ o is. same_Some t o (sym g.0 ∙ is) in
         record {
           ours = record {
             starts = sym (edge_alike r.first (let o = i.order in omega arith)) ∙ i.starts;
@@ -254,7 +264,14 @@ module _ {S : Type 0} (ops : Ops S) where
               clean = refl;
             });
           };
-          alike = record { first = refl; last = refl; address = refl; ninths = refl; clean = held_at r.clean _ stops _ t so g.0 j };
+          alike = record {
+            first = refl;
+            last = refl;
+            address = refl;
+            ninths = refl;
+            clean = held_at r.clean _ stops _ t so g.0 j;
+            held = λ o is stop one h. so ∙ and_from _ _ (ap is_stop stop) (held_clean c.t t g.1 g.2 (ap (λ o. length o.bits) (same o is) ∙ one) (subst (λ o. HeldLow o.bytes) (sym (same o is)) h));
+          };
         }
 
     open_beside : (r : Row) → IsTransfer (edge_at xs) (open_after xs) (clean_at xs) n r → LeftOpen (edge_at xs) (open_after xs) (clean_at xs) n r → Beside r
@@ -280,7 +297,14 @@ module _ {S : Type 0} (ops : Ops S) where
               clean = dirty;
             });
           };
-          alike = record { first = refl; last = refl; address = refl; ninths = refl; clean = inl (c.clean ∙ sym dirty) };
+          alike = record {
+            first = refl;
+            last = refl;
+            address = refl;
+            ninths = refl;
+            clean = inl (c.clean ∙ sym dirty);
+            held = λ o is stop one h. absurd (clash (sym (unstopped (eq-or-lt_of_le i.order) starts) ∙ ap is_stop stop));
+          };
         }
       where
         unstopped : (r.first ≡ r.last) ⊎ (r.first < r.last) → E r.first ≡ started → is_stop (E r.last) ≡ false

@@ -6,7 +6,7 @@ use Rattle.board.specs.declared.call.Call.{Call}
 use Rattle.board.specs.declared.call.Call.TheVariants.{Sample}
 use Rattle.board.specs.Engine.{idle_bus}
 use Rattle.board.specs.Samples.{bit_value}
-use Rattle.board.specs.Wires.{Byte, Transfer as Open, all_acked, sending, clean}
+use Rattle.board.specs.Wires.{stopped, Byte, Transfer as Open, all_acked, sending, clean}
 use Rattle.board.specs.Runs.{state, history, edge_at as run_edge}
 use Rattle.reader.specs.declared.transfer.Transfer.{Transfer}
 use Rattle.reader.specs.Recording.{edge_at, open_after, clean_at}
@@ -30,14 +30,15 @@ module _ {S : Type 0} (ops : Ops S) (b : Board S) (samples : ℕ → ℕ) where
   abbrev pub ongoing_at : ℕ → Option Open
   ongoing_at n = (history ops b calls n).ongoing
 
-  -- A record of the recording, r, and one of the run, s: the same, but that r may call a STOP clean which is not,
-  -- where the last whole byte has a LOW ninth bit that is no ACK in the run.
+  -- A record of the recording, r, and one of the run, s: the same, but that r calls a STOP clean which is not,
+  -- where it comes one rise after a byte with a LOW ninth bit that is no ACK in the run. Elsewhere it never does, and there it always does.
   pub record Alike (r s : Transfer) : Type 0 where
     pub first : r.first ≡ s.first
     pub last : r.last ≡ s.last
     pub address : r.address ≡ s.address
     pub ninths : r.ninths ≡ s.ninths
     pub clean : (r.clean ≡ s.clean) ⊎ ((r.clean ≡ true) × (s.clean ≡ false) × ((t : Open) × ((ongoing_at r.last ≡ Some t) × HeldLow t.bytes)))
+    pub held : (t : Open) → ongoing_at r.last ≡ Some t → run_edge ops b calls r.last ≡ stopped → length t.bits ≡ 1 → HeldLow t.bytes → r.clean ≡ true
 
   -- the transfers of the run's first n samples, beside those read from its recording
   pub record Agrees (n : ℕ) (rows : List Transfer) : Type 0 where
