@@ -1,5 +1,5 @@
--- The cases are proved by one test, which the checker computes over the whole table. Assumes nothing.
-use Rattle.std.proofs.Common.{◌≡◌, ℕ, Bool, true, false, ◌&&◌, eqb, List, [], ◌∷◌, map, refl}
+-- The cases are proved by a test of each list, which the checker computes. Assumes nothing.
+use Rattle.std.proofs.Common.{◌≡◌, ℕ, Bool, true, false, ◌&&◌, eqb, List, [], ◌∷◌, ◌++◌, map, refl}
 use borrow.Author.Tests.{clash}
 use Rattle.std.proofs.lemmas.Bool.{eqb-true, and_parts}
 use Rattle.refusals.specs.Told.{Told, ok, refused}
@@ -10,7 +10,7 @@ use Rattle.dcp.specs.Taps.{bytes, tap_in}
 use Rattle.eeprom.specs.Cells.{table, all_of}
 use Rattle.jobfile.specs.Fields.{number_from}
 use Rattle.cases.specs.Play.{play, answer}
-use Rattle.cases.specs.Cases.{Case, board, taps, spelled, fresh_board, Holds, cases, All, EveryCaseHolds}
+use Rattle.cases.specs.Cases.{Case, board, taps, spelled, fresh_board, Holds, chips, no_ack, wp_high, wp_high_locked, All, EveryCaseHolds}
 
 abbrev same : List ℕ → List ℕ → Bool
 same [] [] = true
@@ -52,9 +52,28 @@ all_hold : (cs : List Case) → all_pass cs ≡ true → All Holds cs
 all_hold [] h = tt
 all_hold (c ∷ cs) h = (holds c (and_parts _ _ h).0, all_hold cs (and_parts _ _ h).1)
 
-computed : all_pass cases ≡ true
+all_both : (cs ds : List Case) → All Holds cs → All Holds ds → All Holds (cs ++ ds)
+all_both [] ds h k = k
+all_both (c ∷ cs) ds h k = (h.0, all_both cs ds h.1 k)
+
+chips_pass : all_pass chips ≡ true
 unfolding table all_of bytes tap_in number_from play answer
-computed = refl
+chips_pass = refl
+
+no_ack_pass : all_pass no_ack ≡ true
+unfolding table all_of bytes tap_in number_from play answer
+no_ack_pass = refl
+
+wp_high_pass : all_pass wp_high ≡ true
+unfolding table all_of bytes tap_in number_from play answer
+wp_high_pass = refl
+
+wp_high_locked_pass : all_pass wp_high_locked ≡ true
+unfolding table all_of bytes tap_in number_from play answer
+wp_high_locked_pass = refl
 
 pub every_case_holds : EveryCaseHolds
-every_case_holds = all_hold cases computed
+every_case_holds =
+    all_both chips (no_ack ++ (wp_high ++ wp_high_locked)) (all_hold chips chips_pass) (
+    all_both no_ack (wp_high ++ wp_high_locked) (all_hold no_ack no_ack_pass) (
+    all_both wp_high wp_high_locked (all_hold wp_high wp_high_pass) (all_hold wp_high_locked wp_high_locked_pass)))

@@ -13,7 +13,7 @@ use Rattle.pair.specs.declared.Pair.{Pair}
 use Rattle.pair.specs.Both.{both, join}
 use Rattle.dcp.specs.Taps.{bytes, tap_in}
 use Rattle.jobfile.specs.Fields.{number_from}
-use Rattle.cases.specs.Play.{Call, samples, finish, start, bits_sent, write, Question, cells, tap, acks, reads, clocks, play, answer}
+use Rattle.cases.specs.Play.{Call, samples, finish, start, bits_sent, unstopped, write, write_high, write_stop_high, Question, cells, tap, acks, acks_high, reads, clocks, play, answer}
 
 -- A case: after some calls a question has this answer; bytes of a potentiometer of 100 taps stand for these taps; or these bytes spell a number.
 pub data Case : Type 0 where
@@ -39,6 +39,25 @@ arm = enable ++ (write 82 (0xff ∷ 0x06 ∷ []) ∷ [])
 abbrev pub lock : List Call
 lock = arm ++ (write 82 (0xff ∷ 0x0b ∷ []) ∷ finish 0 ∷ [])
 
+-- 13h locks the last half
+abbrev pub lock_half : List Call
+lock_half = arm ++ (write 82 (0xff ∷ 0x13 ∷ []) ∷ finish 0 ∷ [])
+
+-- RWEL set again while the last quarter is locked, and then a byte for C0h with no STOP
+abbrev pub rearm : List Call
+rearm = lock ++ (write 82 (0xff ∷ 0x06 ∷ []) ∷ [])
+
+abbrev pub tried : List Call
+tried = rearm ++ (samples (unstopped 80 (0xc0 ∷ 0x55 ∷ [])) ∷ [])
+
+-- the two bytes of `arm` with WP HIGH
+abbrev pub arm_high : List Call
+arm_high = write_high 82 (0xff ∷ 0x02 ∷ []) ∷ write_high 82 (0xff ∷ 0x06 ∷ []) ∷ []
+
+-- 00h, which would clear the latches, while the last quarter is locked: with WP HIGH, and with WP HIGH at the STOP alone
+abbrev pub clear_high : List Call
+clear_high = lock ++ (write_high 82 (0xff ∷ 0x00 ∷ []) ∷ write_stop_high 82 (0xff ∷ 0x00 ∷ []) ∷ [])
+
 -- twelve bytes from 0Bh on
 abbrev pub twelve : List Call
 twelve = enable ++ (write 80 (0x0b ∷ 1 ∷ 2 ∷ 3 ∷ 4 ∷ 5 ∷ 6 ∷ 7 ∷ 8 ∷ 9 ∷ 10 ∷ 11 ∷ 12 ∷ []) ∷ finish 0 ∷ [])
@@ -55,8 +74,9 @@ follows = write 81 (0xf9 ∷ 0xe4 ∷ []) ∷ finish 1 ∷ []
 abbrev pub sending : List Call
 sending = samples (start ++ bits_sent 7 80 ++ (2 ∷ 3 ∷ [])) ∷ []
 
-abbrev pub cases : List Case
-cases =
+-- The table is four lists, with a test for each: one test of all would take more memory than the checker gives it.
+abbrev pub chips : List Case
+chips =
     -- the register: 01h fresh, 03h after 02h, 07h after 06h, 0Bh after 0Bh and its finish
     board [] (reads 82 1) (0x01 ∷ [])
     ∷ board enable (reads 82 1) (0x03 ∷ [])
@@ -77,6 +97,56 @@ cases =
     ∷ taps (24 ∷ 56 ∷ 32 ∷ 64 ∷ 120 ∷ 96 ∷ 25 ∷ []) (24 ∷ 25 ∷ 49 ∷ 50 ∷ 75 ∷ 99 ∷ 99 ∷ [])
     ∷ spelled (0x82 ∷ 0x2c ∷ []) 300 2
     ∷ []
+
+-- with WP LOW: what gets no ACK, and what gets one right beside it
+abbrev pub no_ack : List Case
+no_ack =
+    -- without WEL: a byte for the memory, one for a DCP, and 06h for the register
+    board [] (acks 80 (0x10 ∷ 0x55 ∷ [])) (1 ∷ 1 ∷ 0 ∷ [])
+    ∷ board [] (acks 87 (0x00 ∷ 0x20 ∷ [])) (1 ∷ 1 ∷ 0 ∷ [])
+    ∷ board [] (acks 82 (0xff ∷ 0x06 ∷ [])) (1 ∷ 1 ∷ 0 ∷ [])
+    -- 40h as the first byte for a DCP
+    ∷ board [] (acks 87 (0x40 ∷ [])) (1 ∷ 0 ∷ [])
+    -- with the last half locked: 80h, and not 7Fh
+    ∷ board lock_half (acks 80 (0x80 ∷ 0x55 ∷ [])) (1 ∷ 1 ∷ 0 ∷ [])
+    ∷ board lock_half (acks 80 (0x7f ∷ 0x55 ∷ [])) (1 ∷ 1 ∷ 1 ∷ [])
+    -- a byte for a locked page, which clears RWEL at once: the register reads 0Fh before it, and 0Bh after
+    ∷ board rearm (reads 82 1) (0x0f ∷ [])
+    ∷ board rearm (acks 80 (0xc0 ∷ 0x55 ∷ [])) (1 ∷ 1 ∷ 0 ∷ [])
+    ∷ board tried (reads 82 1) (0x0b ∷ [])
+    ∷ []
+
+-- with WP HIGH and nothing locked
+abbrev pub wp_high : List Case
+wp_high =
+    -- no byte to be stored gets an ACK: in the DS1846, in the memory, for a DCP where the first byte is 80h, in the register
+    board [] (acks_high 81 (0x10 ∷ 0x55 ∷ [])) (1 ∷ 1 ∷ 0 ∷ [])
+    ∷ board enable (acks_high 80 (0x10 ∷ 0x55 ∷ [])) (1 ∷ 1 ∷ 0 ∷ [])
+    ∷ board enable (acks_high 87 (0x80 ∷ 0x20 ∷ [])) (1 ∷ 1 ∷ 0 ∷ [])
+    ∷ board arm (acks_high 82 (0xff ∷ 0x0b ∷ [])) (1 ∷ 1 ∷ 0 ∷ [])
+    -- any other does: for a DCP where the first byte is 00h, and for the latches
+    ∷ board enable (acks_high 87 (0x00 ∷ 0x20 ∷ [])) (1 ∷ 1 ∷ 1 ∷ [])
+    ∷ board enable (acks_high 82 (0xff ∷ 0x02 ∷ [])) (1 ∷ 1 ∷ 1 ∷ [])
+    ∷ board enable (acks_high 82 (0xff ∷ 0x06 ∷ [])) (1 ∷ 1 ∷ 1 ∷ [])
+    ∷ board enable (acks_high 82 (0xff ∷ 0x00 ∷ [])) (1 ∷ 1 ∷ 1 ∷ [])
+    -- and the latches change at its STOP
+    ∷ board arm_high (reads 82 1) (0x07 ∷ [])
+    ∷ []
+
+-- with WP HIGH and the last quarter locked
+abbrev pub wp_high_locked : List Case
+wp_high_locked =
+    -- no byte gets an ACK
+    board lock (acks_high 87 (0x00 ∷ 0x20 ∷ [])) (1 ∷ 1 ∷ 0 ∷ [])
+    ∷ board lock (acks_high 82 (0xff ∷ 0x02 ∷ [])) (1 ∷ 1 ∷ 0 ∷ [])
+    ∷ board lock (acks_high 82 (0xff ∷ 0x06 ∷ [])) (1 ∷ 1 ∷ 0 ∷ [])
+    ∷ board lock (acks_high 82 (0xff ∷ 0x00 ∷ [])) (1 ∷ 1 ∷ 0 ∷ [])
+    -- and the latches stay, also where WP is HIGH at the STOP alone
+    ∷ board clear_high (reads 82 1) (0x0b ∷ [])
+    ∷ []
+
+abbrev pub cases : List Case
+cases = chips ++ (no_ack ++ (wp_high ++ wp_high_locked))
 
 -- what holds of each of a list
 abbrev pub All : (Case → Type 0) → List Case → Type 0

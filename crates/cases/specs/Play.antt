@@ -1,5 +1,5 @@
 -- Samples and finishes given to a board by its own step functions, and what is asked of it afterwards.
--- A sample has SCL in bit 0 and the master's SDA in bit 1; WP and the monitors are LOW.
+-- A sample has SCL in bit 0, the master's SDA in bit 1 and WP in bit 2. WP is LOW but where a name has `high` in it; the monitors are LOW.
 use Rattle.std.specs.Prelude.{ℕ, zero, suc, ◌+◌, ◌*◌, ◌/◌, ◌%◌, ◌^◌, false, cond, List, [], ◌∷◌, ◌++◌}
 use Rattle.refusals.specs.Told.{Told, ok, refused}
 use Rattle.part.specs.Ops.{Ops}
@@ -35,20 +35,38 @@ abbrev pub all_sent : List ℕ → List ℕ
 all_sent [] = []
 all_sent (x ∷ xs) = sent x ++ (2 ∷ all_sent xs)
 
--- a write of bytes to an address, whatever the ACKs
-abbrev pub write : ℕ → List ℕ → Call
-write a xs = samples (start ++ all_sent ((2 * a) ∷ xs) ++ stop)
+-- samples with w added to each: with `wp` their WP is HIGH, and with 0 they stay
+abbrev pub raised : ℕ → List ℕ → List ℕ
+raised w [] = []
+raised w (x ∷ xs) = (x + w) ∷ raised w xs
 
--- the lines beside the wires in every sample here
+abbrev pub wp : ℕ
+wp = 4
+
+-- a write of bytes to an address, whatever the ACKs: without its STOP, whole, with WP HIGH throughout, and with WP HIGH at the STOP alone
+abbrev pub unstopped : ℕ → List ℕ → List ℕ
+unstopped a xs = start ++ all_sent ((2 * a) ∷ xs)
+
+abbrev pub write : ℕ → List ℕ → Call
+write a xs = samples (unstopped a xs ++ stop)
+
+abbrev pub write_high : ℕ → List ℕ → Call
+write_high a xs = samples (raised wp (unstopped a xs ++ stop))
+
+abbrev pub write_stop_high : ℕ → List ℕ → Call
+write_stop_high a xs = samples (unstopped a xs ++ raised wp stop)
+
+-- the lines beside the wires at each clock asked
 abbrev pub quiet : Levels
 quiet = record { wp = false; v2ro = false; v3ro = false }
 
--- A question: the bytes of some cells from one on, the tap of a wiper, which bytes of a write get an ACK (1 for one), the bytes that a read gives,
--- or the level of SDA at each of some clocks (1 for HIGH).
+-- A question: the bytes of some cells from one on, the tap of a wiper, which bytes of a write get an ACK (1 for one) and which get one with WP HIGH,
+-- the bytes that a read gives, or the level of SDA at each of some clocks (1 for HIGH).
 pub data Question : Type 0 where
   cells : (part from count : ℕ) → Question
   tap : (part wiper : ℕ) → Question
   acks : (address : ℕ) (bytes : List ℕ) → Question
+  acks_high : (address : ℕ) (bytes : List ℕ) → Question
   reads : (address count : ℕ) → Question
   clocks : (count : ℕ) → Question
 
@@ -71,10 +89,10 @@ module _ {S : Type 0} (ops : Ops S) where
   cells_of b k i zero = []
   cells_of b k i (suc n) = shown (cell_told ops b k i) ++ cells_of b k (i + 1) n
 
-  -- an ACK is a LOW ninth bit
-  abbrev pub acks_of : Board S → List ℕ → List ℕ
-  acks_of b [] = []
-  acks_of b (x ∷ xs) = let c = give b (sent x) in cond c.bus.sda 0 1 ∷ acks_of (give c (2 ∷ [])) xs
+  -- an ACK is a LOW ninth bit; w is added to each sample
+  abbrev pub acks_of : ℕ → Board S → List ℕ → List ℕ
+  acks_of w b [] = []
+  acks_of w b (x ∷ xs) = let c = give b (raised w (sent x)) in cond c.bus.sda 0 1 ∷ acks_of w (give c (raised w (2 ∷ []))) xs
 
   -- n bits read after v, then the rest of k bytes; every byte but the last is acknowledged
   abbrev pub bits_read : Board S → ℕ → ℕ → Board S × ℕ
@@ -97,6 +115,7 @@ module _ {S : Type 0} (ops : Ops S) where
   unfoldable pub answer : Board S → Question → List ℕ
   answer b (cells k i n) = cells_of b k i n
   answer b (tap k j) = shown (tap_told ops b k j)
-  answer b (acks a xs) = acks_of (give b start) ((2 * a) ∷ xs)
+  answer b (acks a xs) = acks_of 0 (give b start) ((2 * a) ∷ xs)
+  answer b (acks_high a xs) = acks_of wp (give b (raised wp start)) ((2 * a) ∷ xs)
   answer b (reads a n) = bytes_read (give b (start ++ all_sent ((2 * a + 1) ∷ []))) n
   answer b (clocks n) = clock_levels b n
