@@ -27,8 +27,9 @@ pub enum Moves {
     Questions,
     // Whether parts 0 and 1 of two DS1846 own 51h.
     Owners,
-    // A pair of an X9520 with all locked and both latches set, and a DS1846 with a byte staged for cell 10h: the register's stored byte
-    // and what is staged in the pair, and whether the board made of it is that of fresh chips.
+    // A pair of an X9520 with all locked and both latches set, and a DS1846 with a byte stored in cell 20h, a write to cell 10h under way
+    // and its counter at 11h: the register's stored byte, that of cell 20h and what is under way in the pair, and whether the board
+    // made of it is that of fresh chips.
     Renewed,
 }
 
@@ -64,9 +65,9 @@ pub static CASES: &[Case] = &[
         expected: "true, false",
     },
     Case {
-        name: "making a pair changes neither part, and making a board makes both chips fresh",
+        name: "making a pair changes neither part, and making a board makes both chips fresh, also a busy one",
         steps: &[Step::Moves(Moves::Renewed)],
-        expected: "1b, ab, same",
+        expected: "1b, 5a, ab, same",
     },
 ];
 
@@ -109,13 +110,29 @@ fn questions(told: &mut Told) {
     told.tell(chip.offset(7, 300));
 }
 
+// Opens a transfer and stages a byte for a cell in it.
+fn stage(chip: &mut Ds1846, cell: u8, byte: u8) {
+    chip.start();
+    chip.address(0xa2);
+    chip.aim(0xa2, levels_of(0), cell);
+    chip.take(0xa2, levels_of(0), byte);
+}
+
 // A DS1846 with ABh staged for cell 10h in an open transfer.
 fn staged() -> Ds1846 {
     let mut chip = Ds1846::fresh();
-    chip.start();
-    chip.address(0xa2);
-    chip.aim(0xa2, levels_of(0), 0x10);
-    chip.take(0xa2, levels_of(0), 0xab);
+    stage(&mut chip, 0x10, 0xab);
+    chip
+}
+
+// A DS1846 with 5Ah stored in cell 20h, and a write of ABh to cell 10h under way, which has moved the counter to 11h.
+fn used() -> Ds1846 {
+    let mut chip = Ds1846::fresh();
+    stage(&mut chip, 0x20, 0x5a);
+    chip.stop(true, levels_of(0));
+    chip.finish(0);
+    stage(&mut chip, 0x10, 0xab);
+    chip.stop(true, levels_of(0));
     chip
 }
 
@@ -136,9 +153,10 @@ fn other_part(told: &mut Told) {
 }
 
 fn renewed(told: &mut Told) {
-    let pair = Pair::new(x9520_with(3, 2), staged());
+    let pair = Pair::new(x9520_with(3, 2), used());
     tell_byte(pair.cell(0, 259), told);
-    tell_byte(pair.staged(1, 0x10), told);
+    tell_byte(pair.cell(1, 0x20), told);
+    tell_byte(pair.under_way(1, 0x10), told);
     let board = Board::new(pair);
     told.tell(Same(board == Board::new(x9520_ds1846())));
 }

@@ -18,6 +18,15 @@ pub static CASES: &[Case] = &[
         expected: "a4+, ff+, 02+, 1 ok 03, a4+, ff+, 06+, 1 ok 07",
     },
     Case {
+        name: "BL 00: 00h is taken with WP HIGH throughout, and clears both latches",
+        steps: &[
+            Do(BOTH_LATCHES),
+            Wires(&[Levels(0x04), Start, Bytes(&[0xa4, 0xff, 0x00]), Stop]),
+            Run(READ_REGISTER),
+        ],
+        expected: "a4+, ff+, 00+, 1 ok 01",
+    },
+    Case {
         name: "BL 00: 0Eh with RWEL set is no stored write, and gets an ACK",
         steps: &[
             Do(BOTH_LATCHES),
