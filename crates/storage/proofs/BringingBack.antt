@@ -1,39 +1,38 @@
 -- What a write job stores, later jobs bring back: of a DS1846, and of memory, wipers and register of an X9520.
-use Rattle.std.proofs.Common.{◌≡◌, ℕ, suc, ◌+◌, ◌%◌, ◌<◌, Bool, true, false, ◌⊎◌, List, [], ◌∷◌, Some, refl, sym, ap, ◌∙◌, subst, inl, inr, arith, min, lit<}
+use Rattle.std.proofs.Common.{◌≡◌, ℕ, suc, ◌+◌, ◌/◌, ◌%◌, ◌<◌, Bool, true, false, ◌⊎◌, List, [], ◌∷◌, Some, refl, sym, ap, ◌∙◌, subst, inl, inr, arith, min, lit<}
 use Rattle.refusals.specs.Told.{Told}
 use Rattle.part.specs.Keeps.{Keeps}
 use Rattle.part.specs.Ops.{Ops}
 use Rattle.part.specs.declared.levels.Levels.{Levels}
 use Rattle.part.specs.declared.power.PowerCut.{PowerCut}
 use Rattle.dcp.specs.Wiper.{byte_for}
-use Rattle.protection.specs.Lock.{locks_memory, locks_wipers}
 use Rattle.ds1846.specs.Chip.{ds1846, as_part as ds1846_part}
 use Rattle.ds1846.specs.Keeping.{moves as ds1846_moves}
 use Rattle.ds1846.specs.declared.state.Ds1846.{Ds1846}
 use Rattle.x9520.specs.Chip.{x9520, as_part as x9520_part}
 use Rattle.x9520.specs.Keeping.{moves as x9520_moves}
-use Rattle.x9520.specs.Register.{bit}
 use Rattle.x9520.specs.Sound.{Sound}
 use Rattle.x9520.specs.declared.state.X9520.{X9520}
 use Rattle.board.specs.Engine.{idle_bus, finished, cut}
 use Rattle.board.specs.declared.board.Board.{Board}
 use Rattle.storage.specs.Cells.{Last, Stands}
 use Rattle.controller.specs.Bytes.{AllBytes}
-use Rattle.controller.specs.Jobs.{writing}
+use Rattle.controller.specs.Jobs.{writing, write_byte}
 use Rattle.controller.specs.Master.{run}
-use Rattle.storage.specs.Storing.{BringsCells, HoldsCells, BringsTap, Ds1846Stores, MemoryStores, WiperStores, RegisterStores, Enables, Stores, BringsBack, dcp_byte, taps_of, Means}
+use Rattle.storage.specs.Storing.{bit, MemoryTakes, DcpTakes, RegisterTakes, NamesDcp, AtMostOne, X9520Address, BringsCells, HoldsCells, BringsTap, Accepts, AcceptsEmpty, Ds1846Stores, MemoryStores, WiperStores, RegisterStores, Enables, Stores, BringsBack, dcp_byte, taps_of, Means}
 use Rattle.controller.specs.Work.{written}
 use Rattle.controller.proofs.AllBytes.{no_bytes, one_byte, one_more}
+use Rattle.storage.proofs.Accepting.{AcceptedIf, empty_accepted}
 use Rattle.storage.proofs.Bringing.{Now, now, asked, job_kept, job_now, finish_now, cut_now, brings_now}
 use Rattle.storage.proofs.Ds1846Storing.{tap_capped, ds_accepts, ds_cells, ds_reads}
 use Rattle.storage.proofs.Giving.{Reads, reads_as}
 use Rattle.storage.proofs.MemoryStoring.{memory_accepts, memory_cells, memory_latches, memory_wipers, memory_reads}
 use Rattle.storage.proofs.Over.{over, over_ready}
-use Rattle.storage.proofs.RegisterStoring.{enabled_if, enabled_if_accepted, register_accepts, register_cell, register_others, register_wipers, register_wel, register_reads}
+use Rattle.storage.proofs.RegisterStoring.{register_takes, enabled_if, enabled_if_accepted, register_accepts, register_cell, register_others, register_wipers, register_wel, register_reads}
 use Rattle.storage.proofs.Sitting.{Sits, sitting, Same, same_then, Owned}
 use Rattle.storage.proofs.SoundBoard.{made_sound}
 use Rattle.storage.proofs.WiperReading.{wiper_reads}
-use Rattle.storage.proofs.WiperStoring.{job, wiper_accepts, wiper_moves, wiper_others, wiper_finish, wiper_returns, wiper_falls_back, wiper_holds, wiper_cells, wiper_free, wiper_wel, sound_written, sound_over, sound_cut, cut_free}
+use Rattle.storage.proofs.WiperStoring.{job, dcp_accepts, wiper_accepts, wiper_moves, wiper_others, wiper_finish, wiper_returns, wiper_falls_back, wiper_holds, wiper_cells, wiper_free, wiper_wel, sound_written, sound_over, sound_cut, cut_free}
 
 -- the bytes of a job for the register, and of an aim at it
 register_bytes : (x : ℕ) → x < 256 → AllBytes (255 ∷ (x ∷ []))
@@ -52,6 +51,16 @@ brought page first i ds old new small (inl last) =
 brought page first i ds old new small (inr missed) = inr (missed.0, ap (λ v. v % 256) missed.1)
 
 module _ {S : Type 0} {ops : Ops S} (b c : Board S) (answer : Told (List ℕ)) (l : Levels) (low : l.wp ≡ false) (idle_b : b.bus ≡ idle_bus) where
+  -- on the board a job is accepted exactly if the chip by itself accepts it; what it takes may hang on its register byte
+  accepted_now : {C : Type 0} {chip : Ops C} (sits : Sits ops chip) (Takes : ℕ → Type 0) {told : Told (List ℕ)} → answer ≡ told →
+      AcceptedIf chip (sits.see b.part) told (Takes (chip.cell (sits.see b.part) 0 259)) → Accepts ops b c answer (sits.number b.part) (Takes (ops.cell b.part (sits.number b.part) 259))
+  accepted_now sits Takes is accepted =
+      let was = asked sits (now sits b idle_b) in
+      record {
+        accepts = λ idle takes. is ∙ accepted.accepts (sym was.busy ∙ idle) (subst Takes (was.cell 259) takes);
+        accepts_only = λ took. let only = accepted.accepts_only (sym is ∙ took) in (was.busy ∙ only.0, subst Takes (sym (was.cell 259)) only.1);
+      }
+
   -- what stands in a cell of either chip after the data ds, where what stood there before is asked of the part
   stands_now : {C : Type 0} {chip : Ops C} (sits : Sits ops chip) (page first : ℕ) (ds : List ℕ) (i v : ℕ) →
       Stands page first ds i (chip.cell (sits.see b.part) 0 i) v → Stands page first ds i (ops.cell b.part (sits.number b.part) i) v
@@ -87,8 +96,10 @@ module _ {S : Type 0} {ops : Ops S} (b c : Board S) (answer : Told (List ℕ)) (
       let after = finish_now sits job.1 in
       let is = asked sits after in
       let ready = over_ready ds1846_part ds1846_moves w in
+      let accepted = accepted_now sits (λ r. Unit {0}) job.0 (ds_accepts l first ds chip low) in
       record {
-        accepts = λ idle. job.0 ∙ ds_accepts l first ds chip low (sym (asked sits before).busy ∙ idle);
+        accepts = λ idle. accepted.accepts idle tt;
+        accepts_only = λ took. (accepted.accepts_only took).0;
         ready = is.busy ∙ ready;
         holds = λ took. holds_cells sits 8 first ds after (ds_cells l first ds chip low (small 0) (sym job.0 ∙ took));
         brings = λ took.
@@ -111,8 +122,10 @@ module _ {S : Type 0} {ops : Ops S} (b c : Board S) (answer : Told (List ℕ)) (
       let after = finish_now sits job.1 in
       let is = asked sits after in
       let ready = over_ready x9520_part x9520_moves w in
+      let accepted = accepted_now sits (λ r. MemoryTakes chip.latches.wel r first ds) job.0 (memory_accepts l chip first ds low (small 0)) in
       record {
-        accepts = λ idle wel page. job.0 ∙ memory_accepts l chip first ds low (sym was.busy ∙ idle) wel (ap (λ r. locks_memory r first) (sym (was.cell 259)) ∙ page);
+        accepts = accepted.accepts;
+        accepts_only = accepted.accepts_only;
         ready = is.busy ∙ ready;
         holds = λ took. holds_cells sits 16 first ds after (memory_cells l chip first ds low (small 0) (sym job.0 ∙ took));
         brings = λ took.
@@ -143,11 +156,13 @@ module _ {S : Type 0} {ops : Ops S} (b c : Board S) (answer : Told (List ℕ)) (
       let cut_after : (p : PowerCut) → Now sits b.part (cut ops d p) (x9520.cut (over x9520 w) p) = λ p. cut_now sits after p in
       let was = asked sits before in
       let tap_then = (asked sits done.1).tap in
+      let accepted = accepted_now sits (DcpTakes chip.latches.wel) done.0 (wiper_accepts l chip j store v low in_range) in
       let is = asked sits after in
       let ready = over_ready x9520_part x9520_moves w in
       let tap_cut : (p : PowerCut) → ops.tap (cut ops d p).part (sits.number b.part) j ≡ x9520.tap (x9520.cut (over x9520 w) p) 0 j = λ p. (asked sits (cut_after p)).tap j in
       record {
-        accepts = λ idle wel locked. done.0 ∙ wiper_accepts l chip j store v low in_range (sym was.busy ∙ idle) wel (ap locks_wipers (sym (was.cell 259)) ∙ locked);
+        accepts = accepted.accepts;
+        accepts_only = accepted.accepts_only;
         moves = λ took. subst (Means (taps_of j) v) (sym (tap_then j)) (wiper_moves l chip j store v low in_range (sym done.0 ∙ took) sound);
         others = λ took i other. tap_then i ∙ wiper_others l chip j store v low in_range (sym done.0 ∙ took) i other ∙ sym (was.tap i);
         finish = λ i. is.tap i ∙ wiper_finish w i ∙ sym (tap_then i);
@@ -220,6 +235,37 @@ module _ {S : Type 0} {ops : Ops S} (b c : Board S) (answer : Told (List ℕ)) (
         wipers = λ took j. is.tap j ∙ (enabled_if_accepted l chip low rwel (sym job.0 ∙ took)).took.wipers j ∙ sym (was.tap j);
       }
 
+  -- any bytes for the DCPs or for the register, and no bytes for either chip
+  dcp_accepted : (sits : Sits ops x9520) (first : ℕ) (ds : List ℕ) → AllBytes (first ∷ ds) → Owned sits b.part 87 → run ops (writing l 87 (first ∷ ds)) b ≡ (c, answer) →
+      Accepts ops b c answer (sits.number b.part) (NamesDcp first × AtMostOne (λ v. DcpTakes (sits.see b.part).latches.wel (ops.cell b.part (sits.number b.part) 259)) ds)
+  dcp_accepted sits first ds small mine ran =
+      let chip : X9520 = sits.see b.part in
+      let job = job_now sits l 87 (first ∷ ds) b small ran (lit< tt) mine (now sits b idle_b) in
+      accepted_now sits (λ r. NamesDcp first × AtMostOne (λ v. DcpTakes chip.latches.wel r) ds) job.0 (dcp_accepts l chip first ds low (small 0))
+
+  register_accepted : (sits : Sits ops x9520) (first : ℕ) (ds : List ℕ) → AllBytes (first ∷ ds) → Owned sits b.part 82 → run ops (writing l 82 (first ∷ ds)) b ≡ (c, answer) →
+      Accepts ops b c answer (sits.number b.part) ((first ≡ 255) × AtMostOne (RegisterTakes (sits.see b.part).latches.wel (sits.see b.part).latches.rwel) ds)
+  register_accepted sits first ds small mine ran =
+      let chip : X9520 = sits.see b.part in
+      let job = job_now sits l 82 (first ∷ ds) b small ran (lit< tt) mine (now sits b idle_b) in
+      accepted_now sits (λ r. (first ≡ 255) × AtMostOne (RegisterTakes chip.latches.wel chip.latches.rwel) ds) job.0 (register_takes l chip first ds low)
+
+  empty_accepts : {C : Type 0} {chip : Ops C} (sits : Sits ops chip) (m : ℕ) → m < 128 → Owned sits b.part m → run ops (writing l m []) b ≡ (c, answer) →
+      AcceptedIf chip (sits.see b.part) (written chip l m [] (sits.see b.part)).1 (Unit {0}) → AcceptsEmpty ops b c answer (sits.number b.part)
+  empty_accepts sits m few mine ran = accepted_now sits (λ r. Unit {0}) (job_now sits l m [] b no_bytes ran few mine (now sits b idle_b)).0
+
+  x9520_empty : (sits : Sits ops x9520) (m : ℕ) → X9520Address m → Owned sits b.part m → run ops (writing l m []) b ≡ (c, answer) → AcceptsEmpty ops b c answer (sits.number b.part)
+  x9520_empty sits m address mine ran = elim address [
+    | inl e ↦ at e (lit< tt) refl
+    | inr (inl e) ↦ at e (lit< tt) refl
+    | inr (inr e) ↦ at e (lit< tt) refl
+  ]
+    where
+      at : {n : ℕ} → m ≡ n → n < 128 → x9520_part.has (write_byte n / 2) ≡ true → AcceptsEmpty ops b c answer (sits.number b.part)
+      at {n} e few has =
+          empty_accepts sits n few (subst (Owned sits b.part) e mine) (subst (λ m. run ops (writing l m []) b ≡ (c, answer)) e ran)
+          (empty_accepted x9520_part x9520_moves l n (sits.see b.part) has)
+
   stores : Keeps ops → (a : ℕ) (xs : List ℕ) → AllBytes xs → run ops (writing l a xs) b ≡ (c, answer) → Stores ops l a xs b c answer
   stores keeps a xs small ran =
       record {
@@ -231,6 +277,11 @@ module _ {S : Type 0} {ops : Ops S} (b c : Board S) (answer : Told (List ℕ)) (
             wiper_stores (sitting keeps direct) j store v in_range (made_sound ops keeps number see direct.seat b made) (subst AllBytes is small) mine (at address is);
         register = λ number see direct address mine l0 l1 b0 b1 t0 t1 low0 low1 idle_b0 ran0 ran1 x clear set is.
             register_stores (sitting keeps direct) l0 l1 b0 b1 t0 t1 x low0 low1 idle_b0 ran0 ran1 (at address is) clear set (subst AllBytes is small) mine;
+        dcp_takes = λ number see direct address mine first ds is. dcp_accepted (sitting keeps direct) first ds (subst AllBytes is small) mine (at address is);
+        register_takes = λ number see direct address mine first ds is. register_accepted (sitting keeps direct) first ds (subst AllBytes is small) mine (at address is);
+        empty_ds1846 = λ number see direct address mine is.
+            empty_accepts (sitting keeps direct) 81 (lit< tt) mine (at address is) (empty_accepted ds1846_part ds1846_moves l 81 (see b.part) refl);
+        empty_x9520 = λ number see direct address mine is. x9520_empty (sitting keeps direct) a address mine (at refl is);
         enable = λ number see direct address mine is rwel. register_enables (sitting keeps direct) (subst AllBytes is small) mine (at address is) rwel;
       }
     where

@@ -12,7 +12,7 @@ use Rattle.ds1846.specs.declared.state.Ds1846.{Ds1846}
 use Rattle.ds1846.specs.declared.state.Mode.TheVariants.{Idle, Writing, Reading}
 use Rattle.storage.specs.Cells.{Stands}
 use Rattle.controller.specs.Work.{on_ack, later, sent, closed, written, given, read}
-use Rattle.storage.proofs.Accepting.{free_if_accepted}
+use Rattle.storage.proofs.Accepting.{AcceptedIf, accepted_if, free_if_accepted}
 use Rattle.storage.proofs.Filling.{turns_8, filled, reached, over_stands}
 use Rattle.storage.proofs.Giving.{Reads, reads_cells}
 use Rattle.storage.proofs.Over.{over}
@@ -46,8 +46,8 @@ module _ (l : Levels) where
         ap (closed ds1846 l) (aimed_at first ds s free ∙ all_taken (unstages s.eeprom) first 2 ds (λ i. not (free i) && not (low i)))
         ∙ ap (λ wp. (chip (stopped (not wp) (filled 8 (unstages s.eeprom) first ds)) (reached 8 first ds) Idle, ok [])) low
 
-    pub ds_accepts : l.wp ≡ false → ds1846.busy s 0 ≡ false → job.1 ≡ ok []
-    ds_accepts low free = ap (λ w. w.1) (job_is low free)
+    pub ds_accepts : l.wp ≡ false → AcceptedIf ds1846 s job.1 (Unit {0})
+    ds_accepts low = accepted_if as_part moves l 81 (first ∷ ds) s (λ free any. ap (λ w. w.1) (job_is low free)) (λ free accepted. tt)
 
     -- each cell then has the last byte that fell on it, or its old one
     pub ds_cells : l.wp ≡ false → first < 256 → job.1 ≡ ok [] → (i : ℕ) → Stands 8 first ds i (ds1846.cell s 0 i) (ds1846.cell (over ds1846 job.0) 0 i)

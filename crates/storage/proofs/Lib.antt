@@ -6,6 +6,7 @@ pub mod FetchingBack
 pub mod Filling
 pub mod Giving
 pub mod MemoryStoring
+pub mod OneByte
 pub mod Over
 pub mod RegisterStoring
 pub mod Sitting

@@ -1,6 +1,7 @@
 -- What a write job leaves in the memory of an X9520 by itself, and what a read job brings of it.
-use Rattle.std.proofs.Common.{◌≡◌, ℕ, ◌+◌, ◌%◌, ◌<◌, Bool, true, false, cond, not, eqb, leb, ◌⊎◌, List, [], ◌∷◌, sym, refl, ap, ◌∙◌, inl, inr, arith}
-use Rattle.std.proofs.lemmas.Bool.{leb-false, lt-leb, cond_both}
+use Rattle.std.proofs.Common.{◌≡◌, ℕ, ◌+◌, ◌%◌, ◌<◌, ◌≤◌, Bool, true, false, cond, not, eqb, leb, ◌⊎◌, List, [], ◌∷◌, length, sym, refl, ap, ◌∙◌, inl, inr, arith}
+use borrow.Author.Tests.{clash}
+use Rattle.std.proofs.lemmas.Bool.{leb-false, lt-ltb, lt-leb, cond_both}
 use Rattle.refusals.specs.Told.{Told, ok}
 use Rattle.part.specs.declared.levels.Levels.{Levels}
 use Rattle.eeprom.specs.Cells.{byte_at, is_busy, stages, unstages, begins}
@@ -11,13 +12,16 @@ use Rattle.protection.specs.declared.latches.Latches.{Latches}
 use Rattle.x9520.specs.Chip.{x9520, as_part, flags_at}
 use Rattle.x9520.specs.Keeping.{moves}
 use Rattle.x9520.specs.State.{chip}
-use Rattle.x9520.specs.Writing.{Verdict, barred, pages, memory_verdict, acks, taken}
+use Rattle.x9520.specs.Writing.{Verdict, refused, barred, pages, memory_verdict, acks, taken}
 use Rattle.x9520.specs.declared.state.Device.TheVariants.{Memory}
 use Rattle.x9520.specs.declared.state.Mode.TheVariants.{Idle, MemoryBytes, Reading}
 use Rattle.x9520.specs.declared.state.X9520.{X9520}
+use Rattle.runs.specs.Lock.{locks_cell}
+use Rattle.runs.proofs.Bits.{lock_is}
 use Rattle.storage.specs.Cells.{Stands}
+use Rattle.storage.specs.Storing.{MemoryTakes}
 use Rattle.controller.specs.Work.{on_ack, later, closed, written, given, read}
-use Rattle.storage.proofs.Accepting.{free_if_accepted}
+use Rattle.storage.proofs.Accepting.{AcceptedIf, accepted_if, free_if_accepted}
 use Rattle.storage.proofs.Filling.{filled, reached, turns_16, over_stands}
 use Rattle.storage.proofs.Giving.{Reads, reads_cells}
 use Rattle.storage.proofs.Over.{over, over_rest}
@@ -36,6 +40,10 @@ unlocked_by false false false n h = h
 unlocked_next : (r n : ℕ) → locks_memory r n ≡ false → locks_memory r (next_in_page 16 n) ≡ false
 unlocked_next r n h = unlocked_by (eqb (lock_bits r) 0) (eqb (lock_bits r) 1) (eqb (lock_bits r) 2) n h
 
+-- so it is enough that the first cell is not locked, and the law of the lock says of it what the chip goes by
+page_is : (r first : ℕ) → first < 256 → locks_cell r first ≡ locks_memory r first
+page_is r first h = lock_is r first ∙ rw (lt-ltb first 256 h) refl
+
 -- a data byte for the memory is staged, or gets no ACK
 abbrev StagedOrRefused : Verdict → Type 0
 StagedOrRefused v = (v ≡ pages) ⊎ (acks v ≡ false)
@@ -45,6 +53,13 @@ staged_or_refused k r n wp =
     cond_both (not k.wel) _ _ StagedOrRefused (λ e. inr refl) (λ e.
     cond_both (wp_forbids true wp r) _ _ StagedOrRefused (λ f. inr refl) (λ f.
     cond_both (locks_memory r n) barred pages StagedOrRefused (λ g. inr refl) (λ g. inl refl)))
+
+-- staged with WEL set and for a cell that is not locked
+staged_only : (wel wp locked : Bool) → cond (not wel) refused (cond wp refused (cond locked barred pages)) ≡ pages → (wel ≡ true) × (locked ≡ false)
+staged_only true true locked h = absurd (clash (ap acks h))
+staged_only true false true h = absurd (clash (ap acks h))
+staged_only true false false h = (refl, refl)
+staged_only false wp locked h = absurd (clash (ap acks h))
 
 module _ (l : Levels) where
   -- the data byte x, number n of the job, judged v, and the bytes after it
@@ -78,6 +93,19 @@ module _ (l : Levels) where
         let v : memory_verdict s.latches (byte_at e 259) c l.wp ≡ pages = rw (low, wel, h) refl in
         ap (λ v. (byte_and_later v n x xs (taking e c)).1) v ∙ all_accepted low wel (n + 1) xs (stages e c x) (next_in_page 16 c) (unlocked_next (byte_at e 259) c h)
 
+    -- where one is accepted WEL is set, and the page is not locked
+    open_only : (ds : List ℕ) (e : Eeprom 260) (c : ℕ) → (later x9520 l 160 2 ds (taking e c)).1 ≡ ok [] → 1 ≤ length ds → (s.latches.wel ≡ true) × (locks_memory (byte_at e 259) c ≡ false)
+    open_only [] e c h one = absurd (omega (arith, one))
+    open_only (x ∷ xs) e c h one =
+        let judged = memory_verdict s.latches (byte_at e 259) c l.wp in
+        let r = byte_at e 259 in
+        staged_only s.latches.wel (wp_forbids true l.wp r) (locks_memory r c) (staged_if_accepted judged 2 x xs (taking e c) (staged_or_refused s.latches r c l.wp) h)
+
+    accepted_by : l.wp ≡ false → (ds : List ℕ) (e : Eeprom 260) (c : ℕ) → (1 ≤ length ds → (s.latches.wel ≡ true) × (locks_memory (byte_at e 259) c ≡ false)) →
+        (later x9520 l 160 2 ds (taking e c)).1 ≡ ok []
+    accepted_by low [] e c takes = refl
+    accepted_by low (x ∷ xs) e c takes = let h = takes (omega arith) in all_accepted low h.0 2 (x ∷ xs) e c h.1
+
     module _ (first : ℕ) (ds : List ℕ) where
       abbrev job : X9520 × Told (List ℕ)
       job = written x9520 l 80 (first ∷ ds) s
@@ -86,8 +114,12 @@ module _ (l : Levels) where
       unfolding written
       job_is free = rw free refl
 
-      pub memory_accepts : l.wp ≡ false → x9520.busy s 0 ≡ false → s.latches.wel ≡ true → locks_memory (x9520.cell s 0 259) first ≡ false → job.1 ≡ ok []
-      memory_accepts low free wel page = ap (λ w. w.1) (job_is free) ∙ all_accepted low wel 2 ds (unstages s.eeprom) first page
+      pub memory_accepts : l.wp ≡ false → first < 256 → AcceptedIf x9520 s job.1 (MemoryTakes s.latches.wel (x9520.cell s 0 259) first ds)
+      memory_accepts low small =
+          let same : locks_cell (byte_at s.eeprom 259) first ≡ locks_memory (byte_at s.eeprom 259) first = page_is (byte_at s.eeprom 259) first small in
+          accepted_if as_part moves l 80 (first ∷ ds) s
+          (λ free takes. ap (λ w. w.1) (job_is free) ∙ accepted_by low ds (unstages s.eeprom) first (λ one. ((takes one).0, sym same ∙ (takes one).1)))
+          (λ free accepted one. let h = open_only ds (unstages s.eeprom) first (sym (ap (λ w. w.1) (job_is free)) ∙ accepted) one in (h.0, same ∙ h.1))
 
       -- the chip once the STOP has begun what the bytes staged
       abbrev begun : X9520

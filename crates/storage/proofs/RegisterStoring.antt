@@ -1,8 +1,8 @@
 -- The register of an X9520 by itself: what jobs that write 02h, 06h and a byte to it store there, and what reads of it bring.
-use Rattle.std.proofs.Common.{◌≡◌, ℕ, ◌+◌, ◌*◌, ◌/◌, ◌%◌, ◌≢◌, Bool, true, false, cond, ◌&&◌, eqb, ◌⊎◌, List, [], ◌∷◌, Some, None, unwrap_or, sym, refl, ap, ◌∙◌, subst, inl, inr, arith}
+use Rattle.std.proofs.Common.{◌≡◌, ℕ, ◌+◌, ◌*◌, ◌/◌, ◌%◌, ◌≢◌, Bool, true, false, cond, ◌&&◌, ◌||◌, eqb, ◌⊎◌, List, [], ◌∷◌, Some, None, unwrap_or, sym, refl, ap, ◌∙◌, subst, inl, inr, arith}
 use borrow.Author.Tests.{clash}
 use Rattle.std.proofs.Math.Bool.{and_assoc}
-use Rattle.std.proofs.lemmas.Bool.{eqb-true, ne_eqb}
+use Rattle.std.proofs.lemmas.Bool.{eqb-true, eq-eqb, ne_eqb, cases_eq}
 use Rattle.refusals.specs.Told.{Told, ok, refused}
 use Rattle.part.specs.declared.levels.Levels.{Levels}
 use Rattle.eeprom.specs.Cells.{byte_at, under_way_at, is_busy, stages, unstages, begins}
@@ -11,17 +11,18 @@ use Rattle.protection.specs.Latching.{disarmed}
 use Rattle.protection.specs.declared.latches.Latches.{Latches}
 use Rattle.x9520.specs.Chip.{x9520, as_part, flags_at}
 use Rattle.x9520.specs.Keeping.{moves}
-use Rattle.x9520.specs.Register.{bit, weigh, stored_register, register_byte, latched}
+use Rattle.x9520.specs.Register.{weigh, stored_register, register_byte, latched}
 use Rattle.x9520.specs.State.{chip, flags}
-use Rattle.x9520.specs.Writing.{Verdict, latches, stores, register_verdict, acks, taken}
+use Rattle.x9520.specs.Writing.{Verdict, refused as no_ack, latches, stores, armed_verdict, register_verdict, acks, taken}
 use Rattle.x9520.specs.declared.state.Device.TheVariants.{Register}
 use Rattle.x9520.specs.declared.state.Mode.TheVariants.{Idle, RegisterByte, Reading}
 use Rattle.x9520.specs.declared.state.X9520.{X9520}
 use Rattle.board.specs.Samples.{bit_value}
-use Rattle.storage.specs.Storing.{Shows}
-use Rattle.controller.specs.Work.{on_ack, done, closed, written, given, addressed, fetched, read}
-use Rattle.storage.proofs.Accepting.{busy_refuses, free_if_accepted}
+use Rattle.storage.specs.Storing.{bit, RegisterTakes, AtMostOne, Shows}
+use Rattle.controller.specs.Work.{on_ack, done, later, closed, written, given, addressed, fetched, read}
+use Rattle.storage.proofs.Accepting.{AcceptedIf, accepted_if, busy_refuses, free_if_accepted}
 use Rattle.storage.proofs.Giving.{Reads, reads_same}
+use Rattle.storage.proofs.OneByte.{takes_one, takes_one_only}
 use Rattle.storage.proofs.Over.{over, free_under_way, over_cell, over_ready, over_rest}
 use Rattle.board.proofs.Samples.{bit_small}
 
@@ -43,6 +44,73 @@ module _ (k : Latches) (r : ℕ) where
   byte_stored : (zero : Bool) (x : ℕ) → eqb x 0 ≡ zero → k.rwel ≡ true → bit 4 x ≡ false → bit 2 x ≡ true → register_verdict k r false x ≡ stores
   byte_stored true x is_zero rwel clear set = absurd (clash (sym (ap (bit 2) (eqb-true x 0 is_zero)) ∙ set))
   byte_stored false x not_zero rwel clear set = rw (not_zero, rwel, set, clear) refl
+
+-- Which data bytes the register takes with WP LOW.
+acks_if : (k : Latches) (r x : ℕ) → RegisterTakes k.wel k.rwel x → acks (register_verdict k r false x) ≡ true
+acks_if k r x = by_rwel k.rwel
+  where
+    -- with RWEL set: one with bit 1 set changes nothing or is stored
+    kept_or_stored : (zero four : Bool) → acks (cond zero latches (cond four latches stores)) ≡ true
+    kept_or_stored true four = refl
+    kept_or_stored false true = refl
+    kept_or_stored false false = refl
+
+    by_rwel : (rwel : Bool) → RegisterTakes k.wel rwel x →
+        acks (cond (eqb x 0) latches (cond rwel (armed_verdict r false x) (cond (eqb x 2 || (eqb x 6 && k.wel)) latches no_ack))) ≡ true
+    by_rwel false (inl e) = rw e refl
+    by_rwel false (inr (inl e)) = rw e refl
+    by_rwel false (inr (inr h)) = rw (h.0, h.1) refl
+    by_rwel true (inl e) = rw e refl
+    by_rwel true (inr h) = rw h (kept_or_stored (eqb x 0) (bit 4 x))
+
+acked : (b : Bool) (v : Verdict) → acks (cond b v no_ack) ≡ true → b ≡ true
+acked true v h = refl
+acked false v h = h
+
+acks_only : (k : Latches) (r x : ℕ) → acks (register_verdict k r false x) ≡ true → RegisterTakes k.wel k.rwel x
+acks_only k r x = by_rwel k.rwel (cases_eq x 0)
+  where
+    named : (two six wel : Bool) → (two || (six && wel)) ≡ true → eqb x 2 ≡ two → eqb x 6 ≡ six → (x ≡ 2) ⊎ ((x ≡ 6) × (wel ≡ true))
+    named true six wel h two six_is = inl (eqb-true x 2 two)
+    named false true wel h two six = inr (eqb-true x 6 six, h)
+    named false false wel h two six = absurd (clash h)
+
+    by_rwel : (rwel : Bool) → (x ≡ 0) ⊎ (x ≡ 0 → ⊥) →
+        acks (cond (eqb x 0) latches (cond rwel (armed_verdict r false x) (cond (eqb x 2 || (eqb x 6 && k.wel)) latches no_ack))) ≡ true → RegisterTakes k.wel rwel x
+    by_rwel false (inl e) h = inl e
+    by_rwel false (inr n) h = inr (named (eqb x 2) (eqb x 6) k.wel (acked _ latches (rw (ne_eqb x 0 n) at h)) refl refl)
+    by_rwel true (inl e) h = inl e
+    by_rwel true (inr n) h = inr (acked (bit 2 x) _ (rw (ne_eqb x 0 n) at h))
+
+module _ (l : Levels) (s : X9520) (first : ℕ) (ds : List ℕ) (low : l.wp ≡ false) where
+  abbrev any_job : X9520 × Told (List ℕ)
+  any_job = written x9520 l 82 (first ∷ ds) s
+
+  -- the chip that awaits data bytes for the register
+  abbrev awaiting : X9520
+  awaiting = chip (unstages s.eeprom) s.dcps s.latches (flags_at s.flags l) s.counter s.named RegisterByte
+
+  opens_is : is_busy s.eeprom ≡ false → first ≡ 255 → any_job.1 ≡ (later x9520 l 164 2 ds awaiting).1
+  unfolding written
+  opens_is free e = rw (free, eq-eqb first 255 e) refl
+
+  rejected_is : is_busy s.eeprom ≡ false → (first ≡ 255 → ⊥) → any_job.1 ≡ refused 8 1
+  unfolding written
+  rejected_is free n = rw (free, ne_eqb first 255 n) refl
+
+  acks_is : (x : ℕ) → x9520.takes awaiting 164 l x ≡ acks (register_verdict s.latches (stored_register s) false x)
+  acks_is x = rw low refl
+
+  takes_only_by : (first ≡ 255) ⊎ (first ≡ 255 → ⊥) → is_busy s.eeprom ≡ false → any_job.1 ≡ ok [] → (first ≡ 255) × AtMostOne (RegisterTakes s.latches.wel s.latches.rwel) ds
+  takes_only_by (inl e) free accepted =
+      (e, takes_one_only l 164 awaiting refl (λ x h. acks_only s.latches (stored_register s) x (sym (acks_is x) ∙ h)) ds (sym (opens_is free e) ∙ accepted))
+  takes_only_by (inr n) free accepted = let refuses = rejected_is free n in cc
+
+  pub register_takes : AcceptedIf x9520 s any_job.1 ((first ≡ 255) × AtMostOne (RegisterTakes s.latches.wel s.latches.rwel) ds)
+  register_takes =
+      accepted_if as_part moves l 82 (first ∷ ds) s
+      (λ free h. opens_is free h.0 ∙ takes_one l 164 awaiting (λ x t. acks_is x ∙ acks_if s.latches (stored_register s) x t) ds h.1)
+      (takes_only_by (cases_eq first 255))
 
 -- an accepted job of the chip s that leaves the stored bytes and the wipers as they were, and WEL set
 pub record Took (s : X9520) (w : X9520 × Told (List ℕ)) : Type 0 where

@@ -1,6 +1,7 @@
 -- A byte written to a DCP of an X9520 by itself: whether the job is accepted, where the wipers stand after it, and where after a power cut.
 use Rattle.std.proofs.Common.{◌≡◌, ℕ, zero, suc, ◌+◌, ◌-◌, ◌%◌, ◌<◌, ◌≤◌, ◌≢◌, Bool, true, false, cond, not, ◌&&◌, eqb, leb, ltb, ◌⊎◌, List, [], ◌∷◌, length, Some, None, Option, unwrap_or, sym, refl, ap, ◌∙◌, subst, inl, inr, arith, min, lit<}
-use Rattle.std.proofs.lemmas.Bool.{lt-ltb, le-leb, lt-leb, eq-eqb, ne_eqb, and_from, and_parts, cases_lt, cases_eq}
+use borrow.Author.Tests.{clash}
+use Rattle.std.proofs.lemmas.Bool.{lt-ltb, le-ltb, le-leb, lt-leb, eq-eqb, ne_eqb, and_from, and_parts, cases_lt, cases_eq}
 use Rattle.std.proofs.lemmas.List.{get_or_past, get_or-set_same, get_or-set_other}
 use Rattle.std.specs.Option.{option_or}
 use Rattle.refusals.specs.Told.{Told, ok, refused}
@@ -15,21 +16,24 @@ use Rattle.dcp.specs.declared.dcp.Dcp.{Dcp}
 use Rattle.dcp.specs.declared.taps.Entry.{Entry}
 use Rattle.dcp.proofs.Standing.{holds}
 use Rattle.dcp.proofs.Table.{inverse}
-use Rattle.protection.specs.Lock.{locks_wipers}
+use Rattle.protection.specs.Lock.{locks_wipers as wipers_in_chip}
 use Rattle.protection.specs.declared.latches.Latches.{Latches}
 use Rattle.x9520.specs.Bytes.{taken_rests}
 use Rattle.x9520.specs.Chip.{x9520, as_part, tap_at}
 use Rattle.x9520.specs.Keeping.{moves as own_moves}
 use Rattle.x9520.specs.Sound.{Sound}
 use Rattle.x9520.specs.State.{wipers_from}
-use Rattle.x9520.specs.Writing.{names, aim_for, Verdict, refused as no_move, moves, dcp_verdict, taken, cells_taken, with_moved, no_dcp}
+use Rattle.x9520.specs.Writing.{rejected, names, aim_for, Verdict, refused as no_move, moves, dcp_verdict, acks, taken, cells_taken, with_moved, no_dcp}
 use Rattle.x9520.specs.declared.state.Device.TheVariants.{Dcps}
 use Rattle.x9520.specs.declared.state.Mode.TheVariants.{DcpByte}
 use Rattle.x9520.specs.declared.state.X9520.{X9520}
 use Rattle.x9520.proofs.Calm.{stop_begins, stop_byte}
-use Rattle.storage.specs.Storing.{dcp_byte, taps_of, Means}
-use Rattle.controller.specs.Work.{written}
-use Rattle.storage.proofs.Accepting.{free_if_accepted}
+use Rattle.runs.specs.Lock.{locks_wipers}
+use Rattle.runs.proofs.Bits.{wipers_is}
+use Rattle.storage.specs.Storing.{dcp_byte, taps_of, Means, NamesDcp, DcpTakes, AtMostOne}
+use Rattle.controller.specs.Work.{later, written}
+use Rattle.storage.proofs.Accepting.{AcceptedIf, accepted_if}
+use Rattle.storage.proofs.OneByte.{takes_one, takes_one_only}
 use Rattle.storage.proofs.Over.{over, free_under_way, over_cell, over_ready, over_rest}
 use Rattle.storage.proofs.WiperReading.{at_mode, dcp_of, tap_is, names_dcp}
 
@@ -61,6 +65,10 @@ first_byte false j h = (omega arith, lt-leb 128 j (omega arith))
 named : (j : ℕ) (store : Bool) → j < 3 → aim_for Dcps (dcp_byte j store) ≡ names j store
 named j store h = let f = first_byte store j h in names_dcp (dcp_byte j store) j f.0 h ∙ ap (names j) f.1
 
+dcp_byte_small : (j : ℕ) (store : Bool) → j < 3 → dcp_byte j store < 256
+dcp_byte_small j true h = omega (arith, h)
+dcp_byte_small j false h = omega (arith, h)
+
 -- with WP LOW the data byte moves the wiper where WEL is set and the wipers are not locked
 decided_by : (e k : Bool) (x y : Verdict) → cond (not e) x (cond k x y) ≡ cond (e && not k) y x
 decided_by true true x y = refl
@@ -68,7 +76,61 @@ decided_by true false x y = refl
 decided_by false k x y = refl
 
 decided : (l : Latches) (r : ℕ) (store wp : Bool) → wp ≡ false → dcp_verdict l r store wp ≡ cond (l.wel && not (locks_wipers r)) (moves store) no_move
-decided l r store wp low = rw low (decided_by l.wel (locks_wipers r) no_move (moves store))
+decided l r store wp low = rw low (decided_by l.wel (wipers_in_chip r) no_move (moves store)) ∙ ap (λ k. cond (l.wel && not k) (moves store) no_move) (sym (wipers_is r))
+
+-- A first byte names a DCP or gets no ACK.
+named_or_rejected : (first : ℕ) → first < 256 → NamesDcp first ⊎ (aim_for Dcps first ≡ rejected)
+named_or_rejected first small = elim (cases_lt (first % 128) 3) [
+  | inl h ↦ inl (elim (cases_lt first 128) [
+    | inl low ↦ (first % 128, false, h, omega (arith, low))
+    | inr high ↦ (first % 128, true, h, omega (arith, high, small))
+  ])
+  | inr past ↦ inr (rw (le-ltb (first % 128) 3 past) refl)
+]
+
+opens_if : (e k : Bool) (store : Bool) → (e ≡ true) × (k ≡ false) → acks (cond (e && not k) (moves store) no_move) ≡ true
+opens_if e k store h = rw (h.0, h.1) refl
+
+opens_only : (e k : Bool) (store : Bool) → acks (cond (e && not k) (moves store) no_move) ≡ true → (e ≡ true) × (k ≡ false)
+opens_only true true store h = absurd (clash h)
+opens_only true false store h = (refl, refl)
+opens_only false k store h = absurd (clash h)
+
+module _ (l : Levels) (s : X9520) (first : ℕ) (ds : List ℕ) (low : l.wp ≡ false) where
+  abbrev any_job : X9520 × Told (List ℕ)
+  any_job = written x9520 l 87 (first ∷ ds) s
+
+  -- the chip that awaits data bytes for a DCP
+  abbrev awaiting : ℕ → Bool → X9520
+  awaiting j store = at_mode (x9520.level s l) j (DcpByte store)
+
+  named_is : {j : ℕ} {store : Bool} → is_busy s.eeprom ≡ false → aim_for Dcps first ≡ names j store → any_job.1 ≡ (later x9520 l 174 2 ds (awaiting j store)).1
+  unfolding written
+  named_is free name = rw (free, name) refl
+
+  rejected_is : is_busy s.eeprom ≡ false → aim_for Dcps first ≡ rejected → any_job.1 ≡ refused 8 1
+  unfolding written
+  rejected_is free none = rw (free, none) refl
+
+  acks_is : (j : ℕ) (store : Bool) (v : ℕ) → x9520.takes (awaiting j store) 174 l v ≡ acks (cond (s.latches.wel && not (locks_wipers (byte_at s.eeprom 259))) (moves store) no_move)
+  acks_is j store v = ap acks (decided s.latches (byte_at s.eeprom 259) store l.wp low)
+
+  takes_if : NamesDcp first × AtMostOne (λ v. DcpTakes s.latches.wel (byte_at s.eeprom 259)) ds → is_busy s.eeprom ≡ false → any_job.1 ≡ ok []
+  takes_if ((j, store, in_range, is), h) free =
+      named_is free (ap (aim_for Dcps) is ∙ named j store in_range)
+      ∙ takes_one l 174 (awaiting j store) (λ v t. acks_is j store v ∙ opens_if _ _ store t) ds h
+
+  takes_only_by : NamesDcp first ⊎ (aim_for Dcps first ≡ rejected) → is_busy s.eeprom ≡ false → any_job.1 ≡ ok [] →
+      NamesDcp first × AtMostOne (λ v. DcpTakes s.latches.wel (byte_at s.eeprom 259)) ds
+  takes_only_by (inl (j, store, in_range, is)) free accepted =
+      let t = awaiting j store in
+      let told = sym (named_is free (ap (aim_for Dcps) is ∙ named j store in_range)) ∙ accepted in
+      let one = takes_one_only l 174 t refl (λ v h. opens_only _ _ store (sym (acks_is j store v) ∙ h)) ds told in
+      ((j, store, in_range, is), one)
+  takes_only_by (inr none) free accepted = let refuses = rejected_is free none in cc
+
+  pub dcp_accepts : first < 256 → AcceptedIf x9520 s any_job.1 (NamesDcp first × AtMostOne (λ v. DcpTakes s.latches.wel (byte_at s.eeprom 259)) ds)
+  dcp_accepts small = accepted_if as_part own_moves l 87 (first ∷ ds) s (λ free takes. takes_if takes free) (takes_only_by (named_or_rejected first small))
 
 -- what an accepted job leaves
 record Wrote (s : X9520) (j : ℕ) (store : Bool) (v : ℕ) (t : X9520) : Type 0 where
@@ -102,16 +164,14 @@ module _ (l : Levels) (s : X9520) (j : ℕ) (store : Bool) (v : ℕ) where
     unfolding written
     job_is free opens = rw (free, named j store in_range, decided s.latches (byte_at s.eeprom 259) store l.wp low, opens) refl
 
-    pub wiper_accepts : x9520.busy s 0 ≡ false → s.latches.wel ≡ true → locks_wipers (x9520.cell s 0 259) ≡ false → job.1 ≡ ok []
-    wiper_accepts free wel unlocked = ap (λ w. w.1) (job_is free (and_from _ _ wel (ap not unlocked)))
-
-    -- a chip that is not open to the byte refuses it
-    open_by : (opens : Bool) → open_to ≡ opens → is_busy s.eeprom ≡ false → job.1 ≡ ok [] → open_to ≡ true
-    unfolding written
-    open_by true opens free accepted = opens
-    open_by false shut free accepted =
-        let refuses : job.1 ≡ refused 8 2 = rw (free, named j store in_range, decided s.latches (byte_at s.eeprom 259) store l.wp low, shut) refl in
-        cc
+    -- of one data byte for a DCP that the first byte names
+    pub wiper_accepts : AcceptedIf x9520 s job.1 (DcpTakes s.latches.wel (x9520.cell s 0 259))
+    wiper_accepts =
+        let any = dcp_accepts l s (dcp_byte j store) (v ∷ []) low (dcp_byte_small j store in_range) in
+        record {
+          accepts = λ free takes. any.accepts free ((j, store, in_range, refl), takes);
+          accepts_only = λ accepted. let only = any.accepts_only accepted in (only.0, only.1.1);
+        }
 
     wrote : is_busy s.eeprom ≡ false → open_to ≡ true → Wrote s j store v (x9520.stop moving true l)
     wrote free opens =
@@ -128,8 +188,9 @@ module _ (l : Levels) (s : X9520) (j : ℕ) (store : Bool) (v : ℕ) where
 
     accepted_wrote : job.1 ≡ ok [] → Wrote s j store v job.0
     accepted_wrote accepted =
-        let free = free_if_accepted as_part own_moves l 87 (dcp_byte j store ∷ (v ∷ [])) s accepted in
-        let opens = open_by open_to refl free accepted in
+        let only = wiper_accepts.accepts_only accepted in
+        let free = only.0 in
+        let opens = and_from _ _ only.1.0 (ap not only.1.1) in
         subst (Wrote s j store v) (sym (ap (λ w. w.0) (job_is free opens))) (wrote free opens)
 
 -- A DCP as number j is to be: so many taps, and its register holds the byte of its tap.

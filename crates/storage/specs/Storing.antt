@@ -1,5 +1,6 @@
--- What a write job stores, later jobs bring back: of each chip that sits directly in a part, alone or anywhere in pairs, and whose number owns the address.
-use Rattle.std.specs.Prelude.{◌≡◌, ℕ, ◌+◌, ◌%◌, ◌<◌, ◌≤◌, Bool, true, false, ◌&&◌, ◌⊎◌, List, [], ◌∷◌, length, min, Some, ◌==◌, ◌≢◌, slice_index_or}
+-- Which write jobs are accepted, and what one stores, later jobs bring back: of each chip that sits directly in a part, alone or anywhere in pairs,
+-- and whose number owns the address. What a register byte locks is what the law of the lock writes out in numbers.
+use Rattle.std.specs.Prelude.{◌≡◌, ℕ, ◌+◌, ◌/◌, ◌%◌, ◌<◌, ◌≤◌, Bool, true, false, ◌&&◌, ◌⊎◌, List, [], ◌∷◌, length, min, Some, ◌==◌, ◌≢◌, slice_index_or}
 use Rattle.refusals.specs.Told.{Told, ok}
 use Rattle.part.specs.Ops.{Ops}
 use Rattle.part.specs.Seats.{Direct}
@@ -7,15 +8,15 @@ use Rattle.part.specs.declared.levels.Levels.{Levels}
 use Rattle.part.specs.declared.power.PowerCut.{PowerCut}
 use Rattle.dcp.specs.Taps.{byte_of}
 use Rattle.dcp.specs.Wiper.{byte_for}
-use Rattle.protection.specs.Lock.{locks_memory, locks_wipers}
 use Rattle.ds1846.specs.declared.state.Ds1846.{Ds1846}
 use Rattle.ds1846.specs.Chip.{ds1846}
 use Rattle.x9520.specs.declared.state.X9520.{X9520}
 use Rattle.x9520.specs.Chip.{x9520}
-use Rattle.x9520.specs.Register.{bit}
 use Rattle.board.specs.declared.board.Board.{Board}
 use Rattle.board.specs.Engine.{idle, idle_bus, finished, cut}
 use Rattle.board.specs.Runs.{Reaches}
+use Rattle.board.specs.Samples.{odd}
+use Rattle.runs.specs.Lock.{locks_cell, locks_wipers}
 use Rattle.storage.specs.Cells.{Stands}
 use Rattle.controller.specs.Bytes.{AllBytes}
 use Rattle.controller.specs.Jobs.{writing, reading}
@@ -38,6 +39,38 @@ means_by false taps v t = ((v < taps) × (t ≡ v)) ⊎ ((taps ≤ v) × (t + 1 
 
 abbrev pub Means : ℕ → ℕ → ℕ → Type 0
 Means taps v t = means_by (taps == 100) taps v t
+
+-- a bit of a byte, by its weight
+abbrev pub bit : ℕ → ℕ → Bool
+bit weight x = odd (x / weight)
+
+-- What an X9520 takes while it is not busy, by its latches WEL and RWEL and by its register byte r.
+-- Data bytes for the memory from cell first on: with WEL set, and for a page that is not locked.
+abbrev pub MemoryTakes : (wel : Bool) → (r first : ℕ) → (ds : List ℕ) → Type 0
+MemoryTakes wel r first ds = 1 ≤ length ds → (wel ≡ true) × (locks_cell r first ≡ false)
+
+-- A data byte for a DCP: with WEL set, and where the wipers are not locked.
+abbrev pub DcpTakes : (wel : Bool) → (r : ℕ) → Type 0
+DcpTakes wel r = (wel ≡ true) × (locks_wipers r ≡ false)
+
+-- The data byte x for the register: 00h always; with RWEL clear 02h, and 06h where WEL is set; with RWEL set each byte with bit 1 set.
+abbrev pub RegisterTakes : (wel rwel : Bool) → (x : ℕ) → Type 0
+RegisterTakes wel false x = (x ≡ 0x00) ⊎ ((x ≡ 0x02) ⊎ ((x ≡ 0x06) × (wel ≡ true)))
+RegisterTakes wel true x = (x ≡ 0x00) ⊎ (bit 2 x ≡ true)
+
+-- the first byte names DCP 0, 1 or 2
+abbrev pub NamesDcp : (first : ℕ) → Type 0
+NamesDcp first = (j : ℕ) × (store : Bool) × (j < 3) × (first ≡ dcp_byte j store)
+
+-- no data byte, or one, which is taken
+abbrev pub AtMostOne : (Takes : ℕ → Type 0) → List ℕ → Type 0
+AtMostOne Takes [] = Unit {0}
+AtMostOne Takes (x ∷ []) = Takes x
+AtMostOne Takes (x ∷ (y ∷ ys)) = ⊥
+
+-- the addresses of an X9520
+abbrev pub X9520Address : ℕ → Type 0
+X9520Address a = (a ≡ 80) ⊎ ((a ≡ 82) ⊎ (a ≡ 87))
 
 -- What the register shows, read as v, of a byte x that was stored there, with whether V2RO and V3RO were HIGH all the while:
 -- the stored bits 7, 4, 3 and 0, the flags, RWEL clear and WEL set.
@@ -77,9 +110,19 @@ module _ {S : Type 0} (ops : Ops S) where
     abbrev pub HoldsCells : ℕ → ℕ → List ℕ → Type 0
     HoldsCells page first ds = (i : ℕ) → Stands page first ds i (ops.cell b.part k i) (ops.cell (finished ops c k).part k i)
 
-    -- A DS1846 takes the write unless it is busy. Its wipers follow cells F8h, F9h and FAh: wiper 1 the whole byte, the others its low seven bits up to tap 99.
+    -- The write is accepted exactly if the chip is not busy and takes its bytes.
+    pub record Accepts (Takes : Type 0) : Type 0 where
+      pub accepts : ops.busy b.part k ≡ false → Takes → answer ≡ ok []
+      pub accepts_only : answer ≡ ok [] → (ops.busy b.part k ≡ false) × Takes
+
+    -- the address byte alone is accepted exactly if the chip is not busy
+    abbrev pub AcceptsEmpty : Type 0
+    AcceptsEmpty = Accepts (Unit {0})
+
+    -- A DS1846 takes any bytes unless it is busy. Its wipers follow cells F8h, F9h and FAh: wiper 1 the whole byte, the others its low seven bits up to tap 99.
     pub record Ds1846Stores (first : ℕ) (ds : List ℕ) : Type 0 where
       pub accepts : ops.busy b.part k ≡ false → answer ≡ ok []
+      pub accepts_only : answer ≡ ok [] → ops.busy b.part k ≡ false
       pub ready : ops.busy (finished ops c k).part k ≡ false
       pub holds : answer ≡ ok [] → HoldsCells 8 first ds
       pub brings : answer ≡ ok [] → BringsCells 81 8 first ds
@@ -87,9 +130,10 @@ module _ {S : Type 0} (ops : Ops S) where
       pub wiper_1 : ops.tap (finished ops c k).part k 1 ≡ ops.cell (finished ops c k).part k 248
       pub wiper_2 : ops.tap (finished ops c k).part k 2 ≡ min (ops.cell (finished ops c k).part k 250 % 128) 99
 
-    -- So does the memory of an X9520, where WEL is set and the page is not locked. WEL stays set where it was, and no wiper moves; `after` is the chip after the finish.
+    -- So does the memory of an X9520, if it takes the data bytes. WEL stays set where it was, and no wiper moves; `after` is the chip after the finish.
     pub record MemoryStores (chip after : X9520) (first : ℕ) (ds : List ℕ) : Type 0 where
-      pub accepts : ops.busy b.part k ≡ false → chip.latches.wel ≡ true → locks_memory (ops.cell b.part k 259) first ≡ false → answer ≡ ok []
+      pub accepts : ops.busy b.part k ≡ false → MemoryTakes chip.latches.wel (ops.cell b.part k 259) first ds → answer ≡ ok []
+      pub accepts_only : answer ≡ ok [] → (ops.busy b.part k ≡ false) × MemoryTakes chip.latches.wel (ops.cell b.part k 259) first ds
       pub ready : ops.busy (finished ops c k).part k ≡ false
       pub holds : answer ≡ ok [] → HoldsCells 16 first ds
       pub brings : answer ≡ ok [] → BringsCells 80 16 first ds
@@ -106,7 +150,8 @@ module _ {S : Type 0} (ops : Ops S) where
     -- of that tap. After a power cut then the wiper stands there again if v was stored, and if not at the tap of the old stored byte.
     -- No other byte changes, WEL stays set, and where v is not stored the chip is ready at once.
     pub record WiperStores (chip after : X9520) (j : ℕ) (store : Bool) (v : ℕ) : Type 0 where
-      pub accepts : ops.busy b.part k ≡ false → chip.latches.wel ≡ true → locks_wipers (ops.cell b.part k 259) ≡ false → answer ≡ ok []
+      pub accepts : ops.busy b.part k ≡ false → DcpTakes chip.latches.wel (ops.cell b.part k 259) → answer ≡ ok []
+      pub accepts_only : answer ≡ ok [] → (ops.busy b.part k ≡ false) × DcpTakes chip.latches.wel (ops.cell b.part k 259)
       pub moves : answer ≡ ok [] → Means (taps_of j) v (ops.tap c.part k j)
       pub others : answer ≡ ok [] → (i : ℕ) → (i ≢ j) → ops.tap c.part k i ≡ ops.tap b.part k i
       pub finish : (i : ℕ) → ops.tap (finished ops c k).part k i ≡ ops.tap c.part k i
@@ -143,6 +188,11 @@ module _ {S : Type 0} (ops : Ops S) where
 
   -- A write job of the bytes xs to the address a, at the levels l with WP LOW. A wiper is spoken of on boards made of fresh chips, on which each has its taps.
   pub record Stores (l : Levels) (a : ℕ) (xs : List ℕ) (b c : Board S) (answer : Told (List ℕ)) : Type 0 where
+    -- no bytes, to an address of either chip
+    pub empty_ds1846 : (number : S → ℕ) (see : S → Ds1846) → Direct ops ds1846 number see → a ≡ 81 → ops.owner b.part 81 ≡ Some (number b.part) →
+        xs ≡ [] → AcceptsEmpty b c answer (number b.part)
+    pub empty_x9520 : (number : S → ℕ) (see : S → X9520) → Direct ops x9520 number see → X9520Address a → ops.owner b.part a ≡ Some (number b.part) →
+        xs ≡ [] → AcceptsEmpty b c answer (number b.part)
     pub ds1846 : (number : S → ℕ) (see : S → Ds1846) → Direct ops ds1846 number see → a ≡ 81 → ops.owner b.part 81 ≡ Some (number b.part) →
         (first : ℕ) (ds : List ℕ) → xs ≡ first ∷ ds → Ds1846Stores b c answer (number b.part) first ds
     pub memory : (number : S → ℕ) (see : S → X9520) → Direct ops x9520 number see → a ≡ 80 → ops.owner b.part 80 ≡ Some (number b.part) →
@@ -155,6 +205,13 @@ module _ {S : Type 0} (ops : Ops S) where
         (x : ℕ) → bit 4 x ≡ false → bit 2 x ≡ true → xs ≡ 255 ∷ (x ∷ []) → RegisterStores b c answer (number b.part) l b0 (see b0.part) (see (finished ops c (number b.part)).part) t0 t1 x
     pub enable : (number : S → ℕ) (see : S → X9520) → Direct ops x9520 number see → a ≡ 82 → ops.owner b.part 82 ≡ Some (number b.part) →
         xs ≡ 255 ∷ (2 ∷ []) → (see b.part).latches.rwel ≡ false → Enables b c answer (number b.part) (see c.part)
+    -- any bytes for the DCPs or for the register: the first byte names a DCP, or is FFh, and at most one data byte follows
+    pub dcp_takes : (number : S → ℕ) (see : S → X9520) → Direct ops x9520 number see → a ≡ 87 → ops.owner b.part 87 ≡ Some (number b.part) →
+        (first : ℕ) (ds : List ℕ) → xs ≡ first ∷ ds →
+        Accepts b c answer (number b.part) (NamesDcp first × AtMostOne (λ v. DcpTakes (see b.part).latches.wel (ops.cell b.part (number b.part) 259)) ds)
+    pub register_takes : (number : S → ℕ) (see : S → X9520) → Direct ops x9520 number see → a ≡ 82 → ops.owner b.part 82 ≡ Some (number b.part) →
+        (first : ℕ) (ds : List ℕ) → xs ≡ first ∷ ds →
+        Accepts b c answer (number b.part) ((first ≡ 0xff) × AtMostOne (RegisterTakes (see b.part).latches.wel (see b.part).latches.rwel) ds)
 
 -- Of every write job with WP LOW, of any bytes, on every board with idle wires.
 unfoldable pub BringsBack : {S : Type 0} → Ops S → Type 0
