@@ -3,7 +3,7 @@ use Rattle.std.proofs.Common.{◌≡◌, ℕ, zero, suc, ◌+◌, ◌<◌, ◌�
 use Rattle.part.specs.Ops.{Ops}
 use Rattle.board.specs.declared.board.Board.{Board}
 use Rattle.board.specs.declared.call.Call.{Call}
-use Rattle.board.specs.Runs.{step, state, call_at, Reaches, Leads, GoesOn}
+use Rattle.board.specs.Runs.{step, state, call_at, Leads, GoesOn}
 use Rattle.board.specs.Answers.{after_all}
 use Rattle.board.proofs.Calls.{after_state}
 
@@ -38,32 +38,28 @@ module _ {S : Type 0} (ops : Ops S) where
       ap (state ops b whole) z ∙ ap (λ c. step ops c (whole (n + j))) (state_rest b whole next n h j) ∙ ap (step ops (state ops (state ops b whole n) next j)) (h j)
 
   pub goes_on : (made : Board S) → GoesOn ops made
-  unfolding GoesOn
-  goes_on made calls n next =
+  unfolding GoesOn Leads
+  goes_on made calls n more c leads =
+      let next = call_at more in
       let whole = joined calls n next in
       let before : (j : ℕ) → j ≤ n → state ops made whole j ≡ state ops made calls j =
-      λ j h. state_same made whole calls j (λ i lt. joined_first calls n next i (omega (arith, h, lt))) in (
+      λ j h. state_same made whole calls j (λ i lt. joined_first calls n next i (omega (arith, h, lt))) in
+      let between : (j : ℕ) → state ops made whole (n + j) ≡ state ops (state ops made calls n) next j =
+      λ j. state_rest made whole next n (joined_rest calls n next) j ∙ ap (λ d. state ops d next j) (before n (omega arith)) in (
         whole,
         record {
           first = joined_first calls n next;
           rest = joined_rest calls n next;
           before = before;
-          after = λ j. state_rest made whole next n (joined_rest calls n next) j ∙ ap (λ c. state ops c next j) (before n (omega arith));
+          between = between;
+          there = leads ∙ sym (between (length more));
         },
       )
 
   -- lists of calls, one after another
-  pub after_reaches : (b : Board S) (calls : List Call) → Reaches ops b (after_all ops b calls)
-  unfolding Reaches
-  after_reaches b calls = (call_at calls, length calls, after_state ops b calls)
-
   pub after_leads : (b c : Board S) (calls : List Call) → c ≡ after_all ops b calls → Leads ops b calls c
   unfolding Leads
   after_leads b c calls e = e ∙ after_state ops b calls
-
-  pub leads_after : (b c : Board S) (calls : List Call) → Leads ops b calls c → c ≡ after_all ops b calls
-  unfolding Leads
-  leads_after b c calls e = e ∙ sym (after_state ops b calls)
 
   pub leads_none : (b : Board S) → Leads ops b [] b
   unfolding Leads

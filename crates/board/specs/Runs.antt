@@ -156,24 +156,24 @@ module _ {S : Type 0} (ops : Ops S) where
     abbrev pub moves_at : ℕ → List Move
     moves_at n = moves_of (state n) (calls n) (state (suc n)) (history n).ongoing
 
-  -- some calls lead from one board to another
-  unfoldable pub Reaches : Board S → Board S → Type 0
-  Reaches b c = (calls : ℕ → Call) × (n : ℕ) × (c ≡ state b calls n)
-
-  -- these calls do, one after another, and these samples
+  -- these calls lead from one board to another, one after another
   unfoldable pub Leads : Board S → List Call → Board S → Type 0
   Leads b calls c = c ≡ state b (call_at calls) (length calls)
 
+  -- samples do, given by their bytes
   abbrev pub SampledBy : Board S → List ℕ → Board S → Type 0
   SampledBy b samples c = Leads b (map (λ x. Sample x) samples) c
 
-  -- The calls `whole` are the first n calls of one run and then those of another, which goes on from there; their states are the states of both.
-  pub record Joins (made : Board S) (calls : ℕ → Call) (n : ℕ) (next whole : ℕ → Call) : Type 0 where
+  -- One run, whose calls are `whole`: the first n calls of a run from the board `made`, and then `more`, which lead on to the board c.
+  -- Its states are those of the run, and then those on the way to c.
+  pub record Joins (made : Board S) (calls : ℕ → Call) (n : ℕ) (more : List Call) (c : Board S) (whole : ℕ → Call) : Type 0 where
     pub first : (j : ℕ) → j < n → whole j ≡ calls j
-    pub rest : (j : ℕ) → whole (n + j) ≡ next j
+    pub rest : (j : ℕ) → whole (n + j) ≡ call_at more j
     pub before : (j : ℕ) → j ≤ n → state made whole j ≡ state made calls j
-    pub after : (j : ℕ) → state made whole (n + j) ≡ state (state made calls n) next j
+    pub between : (j : ℕ) → state made whole (n + j) ≡ state (state made calls n) (call_at more) j
+    pub there : c ≡ state made whole (n + length more)
 
-  -- Whatever calls follow a state of a run, it goes on as one run: what holds of any two of its states holds from one job to the next.
+  -- Whatever calls lead on from a state of a run, there is one run that begins as that one did and comes to where they lead:
+  -- so what holds of any two states of a run holds from before a job to after it.
   unfoldable pub GoesOn : Board S → Type 0
-  GoesOn made = (calls : ℕ → Call) (n : ℕ) (next : ℕ → Call) → (whole : ℕ → Call) × Joins made calls n next whole
+  GoesOn made = (calls : ℕ → Call) (n : ℕ) (more : List Call) (c : Board S) → Leads (state made calls n) more c → (whole : ℕ → Call) × Joins made calls n more c whole

@@ -13,7 +13,7 @@ use Rattle.pair.specs.declared.Pair.{Pair}
 use Rattle.pair.specs.Both.{both, join}
 use Rattle.dcp.specs.Taps.{bytes, tap_in}
 use Rattle.jobfile.specs.Fields.{number_from}
-use Rattle.cases.specs.Play.{Call, samples, finish, start, bits_sent, unstopped, write, write_high, write_stop_high, Question, cells, tap, acks, acks_high, reads, clocks, play, answer}
+use Rattle.cases.specs.Play.{Call, samples, finish, start, bits_sent, raised, wp, unstopped, write, write_high, write_stop_high, Question, cells, tap, acks, acks_high, reads, clocks, play, answer}
 
 -- A case: after some calls a question has this answer; bytes of a potentiometer of 100 taps stand for these taps; or these bytes spell a number.
 pub data Case : Type 0 where
@@ -39,6 +39,10 @@ arm = enable ++ (write 82 (0xff ∷ 0x06 ∷ []) ∷ [])
 abbrev pub lock : List Call
 lock = arm ++ (write 82 (0xff ∷ 0x0b ∷ []) ∷ finish 0 ∷ [])
 
+-- a byte with bits 2 and 1 set while RWEL is set
+abbrev pub idled : List Call
+idled = arm ++ (write 82 (0xff ∷ 0x0e ∷ []) ∷ [])
+
 -- 13h locks the last half
 abbrev pub lock_half : List Call
 lock_half = arm ++ (write 82 (0xff ∷ 0x13 ∷ []) ∷ finish 0 ∷ [])
@@ -49,6 +53,10 @@ rearm = lock ++ (write 82 (0xff ∷ 0x06 ∷ []) ∷ [])
 
 abbrev pub tried : List Call
 tried = rearm ++ (samples (unstopped 80 (0xc0 ∷ 0x55 ∷ [])) ∷ [])
+
+-- the same with WP HIGH, where WP is what forbids the byte
+abbrev pub tried_high : List Call
+tried_high = rearm ++ (samples (raised wp (unstopped 80 (0xc0 ∷ 0x55 ∷ []))) ∷ [])
 
 -- the two bytes of `arm` with WP HIGH
 abbrev pub arm_high : List Call
@@ -105,6 +113,8 @@ no_ack =
     board [] (acks 80 (0x10 ∷ 0x55 ∷ [])) (1 ∷ 1 ∷ 0 ∷ [])
     ∷ board [] (acks 87 (0x00 ∷ 0x20 ∷ [])) (1 ∷ 1 ∷ 0 ∷ [])
     ∷ board [] (acks 82 (0xff ∷ 0x06 ∷ [])) (1 ∷ 1 ∷ 0 ∷ [])
+    -- 0Eh while RWEL is set gets one and changes nothing
+    ∷ board idled (reads 82 1) (0x07 ∷ [])
     -- 40h as the first byte for a DCP
     ∷ board [] (acks 87 (0x40 ∷ [])) (1 ∷ 0 ∷ [])
     -- with the last half locked: 80h, and not 7Fh
@@ -143,6 +153,8 @@ wp_high_locked =
     ∷ board lock (acks_high 82 (0xff ∷ 0x00 ∷ [])) (1 ∷ 1 ∷ 0 ∷ [])
     -- and the latches stay, also where WP is HIGH at the STOP alone
     ∷ board clear_high (reads 82 1) (0x0b ∷ [])
+    -- nor is a byte for a locked page tried: WP is tested before the lock
+    ∷ board tried_high (reads 82 1) (0x0f ∷ [])
     ∷ []
 
 abbrev pub cases : List Case

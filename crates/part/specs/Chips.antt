@@ -1,4 +1,4 @@
--- What a chip promises besides the laws of every part, in each state that its moves can make.
+-- What a chip promises besides the laws of every part: in each state that its moves can make, and of its renewal in every state.
 use Rattle.std.specs.Prelude.{◌≡◌, ℕ, ◌%◌, true, false, List, Some, None}
 use Rattle.part.specs.declared.levels.Levels.{Levels}
 use Rattle.part.specs.Ops.{Ops}

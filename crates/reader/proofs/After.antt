@@ -9,12 +9,16 @@ use Rattle.board.specs.Wires.{Edge, steady, started, stopped, rose, fell, edge, 
 use Rattle.reader.specs.declared.transfer.Transfer.{Transfer}
 use Rattle.reader.specs.declared.wires.Edge.{Edge as Seen}
 use Rattle.reader.specs.declared.wires.Wires.{Wires}
-use Rattle.reader.specs.Kept.{kept_of, kept_next, edge_of, starts, AllSmall, wires_after}
+use Rattle.reader.specs.Kept.{kept_of, kept_next, edge_of, starts, AllSmall}
 use Rattle.reader.specs.Read.{transfers}
 use Rattle.reader.specs.Steps.{seen, reader_after, stepped, Stands}
-use Rattle.reader.specs.Reading.{opened, prolonged, ended, with_last, going_on, ending, grown, rows_after}
-use Rattle.reader.specs.Recording.{scl_after, sda_after, edge_at, open_after, clean_shown}
+use Rattle.reader.specs.Reading.{opened, prolonged, ended, with_last, going_on, ending, grown, rows_after, clean_shown}
+use Rattle.reader.specs.Recording.{scl_after, sda_after, edge_at, open_after}
 use Rattle.reader.proofs.Keeping.{next_kept, few, few_none, few_next, small_kept}
+
+-- the two wires after n samples
+abbrev pub wires_after : List ℕ → ℕ → Wires
+wires_after xs n = record { scl = scl_after xs n; sda = sda_after xs n }
 
 -- what the next sample shows, and what the reader keeps then
 pub seen_at : (xs : List ℕ) (n : ℕ) → seen (get_or xs n 0) (reader_after xs n) ≡ edge_at xs n

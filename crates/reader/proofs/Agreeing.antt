@@ -13,7 +13,8 @@ use Rattle.board.specs.Wires.{Edge, steady, started, stopped, rose, fell, edge, 
 use Rattle.board.specs.Runs.{History, pulls, pulls_by, onward, state, history, edge_at as run_edge}
 use Rattle.board.specs.Obeys.{sda_after as sda_of}
 use Rattle.board.proofs.Running.{steps}
-use Rattle.reader.specs.Recording.{scl_after, sda_after, edge_at, open_after, clean_at, last_acked, clean_shown}
+use Rattle.reader.specs.Recording.{scl_after, sda_after, edge_at, open_after, clean_at}
+use Rattle.reader.specs.Reading.{last_acked, clean_shown}
 use Rattle.reader.specs.declared.transfer.Transfer.{Transfer as Row}
 use Rattle.reader.specs.Transfers.{address_of, is_stop, Bounds, Closed, LeftOpen, IsTransfer, no_transfer, at, Reads}
 use Rattle.reader.specs.Agreement.{HeldLow, Records, calls, ongoing_at, Alike, Agrees, ReadsRuns}

@@ -14,8 +14,7 @@ use Rattle.reader.specs.declared.wires.Edge.{Edge as Seen}
 use Rattle.reader.specs.declared.wires.Edge.TheVariants.{Steady, Fall}
 use Rattle.reader.specs.Kept.{kept_of, kept_new, kept_risen_by, kept_risen, kept_next, kept_address, rise_shows, kept_clean, edge_of}
 use Rattle.reader.specs.Steps.{HasLast, Stands, kept_prolonged, Changes, Begins, GoesOn, Reaches, Stopped, Grows}
-use Rattle.reader.specs.Reading.{opened, prolonged, ended, with_last, going_on, ending}
-use Rattle.reader.specs.Recording.{clean_shown}
+use Rattle.reader.specs.Reading.{opened, prolonged, ended, with_last, going_on, ending, clean_shown}
 use Rattle.reader.specs.Transfers.{Shows}
 use Rattle.reader.proofs.Keeping.{prolonged_all, address_kept}
 use Rattle.reader.proofs.Words.{with_last_more}

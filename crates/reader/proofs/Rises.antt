@@ -2,7 +2,8 @@
 use Rattle.std.proofs.Common.{◌≡◌, ℕ, zero, suc, ◌+◌, ◌*◌, ◌≤◌, ◌%◌, Bool, true, false, List, ◌∷◌, length, ltb, Some, None, Option, refl, subst, inl, inr, arith}
 use Rattle.std.proofs.lemmas.Bool.{cases_eq, ltb-true, ltb-false, ne_eqb}
 use Rattle.board.specs.Wires.{Edge, steady, started, stopped, rose, fell, Transfer as Open, risen_by, next}
-use Rattle.reader.specs.Recording.{edge_at, open_after, with_rise, rises_after, last_is_low, last_but_one_is_low, clean_rises, clean_at, last_acked, clean_shown}
+use Rattle.reader.specs.Reading.{last_acked, clean_shown}
+use Rattle.reader.specs.Recording.{edge_at, open_after, with_rise, rises_after, last_is_low, last_but_one_is_low, clean_rises, clean_at}
 
 -- t is the open transfer with these rises
 record Made (t : Open) (ws : List Bool) : Type 0 where
@@ -25,24 +26,29 @@ made_risen false bit pulled t ws e m = record {
   one = λ z. absurd (omega (arith, z));
 }
 
-abbrev AllMade : Option Open → List Bool → Type 0
-AllMade None ws = Unit {0}
-AllMade (Some t) ws = Made t ws
+abbrev AllMade : Option Open → Option (List Bool) → Type 0
+AllMade None None = Unit {0}
+AllMade None (Some ws) = ⊥
+AllMade (Some t) None = ⊥
+AllMade (Some t) (Some ws) = Made t ws
 
-made_next : (e : Edge) (pulled : Bool) (o : Option Open) (ws : List Bool) → AllMade o ws → AllMade (next e pulled o) (with_rise e ws)
-made_next steady pulled o ws m = m
-made_next started pulled o ws m = record { count = refl; few = omega arith; ninth = λ z. refl; one = λ z. refl }
-made_next stopped pulled o ws m = tt
-made_next (rose bit) pulled None ws m = tt
-made_next (rose bit) pulled (Some t) ws m = made_risen (ltb (length t.bits) 8) bit pulled t ws refl m
-made_next fell pulled o ws m = m
+made_next : (e : Edge) (pulled : Bool) (o : Option Open) (p : Option (List Bool)) → AllMade o p → AllMade (next e pulled o) (with_rise e p)
+made_next steady pulled o p m = m
+made_next started pulled o p m = record { count = refl; few = omega arith; ninth = λ z. refl; one = λ z. refl }
+made_next stopped pulled o p m = tt
+made_next (rose bit) pulled None None m = tt
+made_next (rose bit) pulled None (Some ws) m = absurd m
+made_next (rose bit) pulled (Some t) None m = absurd m
+made_next (rose bit) pulled (Some t) (Some ws) m = made_risen (ltb (length t.bits) 8) bit pulled t ws refl m
+made_next fell pulled o p m = m
 
 made : (xs : List ℕ) (n : ℕ) → AllMade (open_after xs n) (rises_after xs n)
 made xs zero = tt
 made xs (suc n) = made_next (edge_at xs n) _ (open_after xs n) (rises_after xs n) (made xs n)
 
-judged : (t : Open) (ws : List Bool) → Made t ws → clean_shown t ≡ clean_rises ws
-judged t ws m = elim (cases_eq (length t.bits) 1) [
+judged : (t : Open) (p : Option (List Bool)) → AllMade (Some t) p → clean_shown t ≡ clean_rises p
+judged t None m = absurd m
+judged t (Some ws) m = elim (cases_eq (length t.bits) 1) [
   | inl e ↦ (let r : length ws % 9 ≡ 1 = omega (arith, e, m.count) in rw (e, r) (m.one e))
   | inr d ↦ (let r : length ws % 9 ≡ 1 → ⊥ = λ z. d (omega (arith, z, m.count, m.few)) in rw (ne_eqb _ _ d, ne_eqb _ _ r) refl)
 ]

@@ -6,9 +6,9 @@ use Rattle.std.proofs.lemmas.List.{length-append, get_or_append_left, get_or_at}
 use Rattle.board.specs.Wires.{Edge, steady, started, stopped, rose, fell, Transfer as Open, transfer, next, risen}
 use Rattle.reader.specs.declared.transfer.Transfer.{Transfer}
 use Rattle.reader.specs.Read.{transfers, Exactly}
-use Rattle.reader.specs.Recording.{sda_after, edge_at, open_after, clean_at, clean_shown}
+use Rattle.reader.specs.Recording.{sda_after, edge_at, open_after, clean_at}
 use Rattle.reader.specs.Transfers.{is_stop, Bounds, Shows, IsTransfer, no_transfer, at, Reads}
-use Rattle.reader.specs.Reading.{opened as new_row, prolonged, ended, with_last, grown, rows_after}
+use Rattle.reader.specs.Reading.{opened as new_row, prolonged, ended, with_last, grown, rows_after, clean_shown}
 use Rattle.reader.proofs.Rises.{clean_told}
 use Rattle.reader.proofs.Unique.{unique}
 

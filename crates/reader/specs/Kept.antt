@@ -6,16 +6,14 @@ use Rattle.reader.specs.declared.kept.Kept.{Kept}
 use Rattle.reader.specs.declared.wires.Edge.{Edge as Seen}
 use Rattle.reader.specs.declared.wires.Edge.TheVariants.{Steady, Start, Stop, Rise, Fall}
 use Rattle.reader.specs.declared.wires.Wires.{Wires}
-use Rattle.reader.specs.Recording.{scl_after, sda_after, last_acked}
+use Rattle.reader.specs.Reading.{last_acked}
+use Rattle.reader.specs.Recording.{scl_after, sda_after}
 
 abbrev pub idle_wires : Wires
 idle_wires = record { scl = true; sda = true }
 
 abbrev pub wires_at : ℕ → Wires
 wires_at x = record { scl = odd x; sda = odd (x / 2) }
-
-abbrev pub wires_after : List ℕ → ℕ → Wires
-wires_after xs n = record { scl = scl_after xs n; sda = sda_after xs n }
 
 abbrev pub edge_of : Seen → Edge
 edge_of Steady = steady

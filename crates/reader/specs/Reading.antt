@@ -1,9 +1,17 @@
 -- How a row of transfers grows with each sample of a recording.
-use Rattle.std.specs.Prelude.{ℕ, zero, suc, List, [], ◌∷◌, ◌++◌, length, false, Bool, Some, None, Option}
-use Rattle.board.specs.Wires.{Edge, steady, started, stopped, rose, fell, Transfer as Open}
+use Rattle.std.specs.Prelude.{ℕ, zero, suc, List, [], ◌∷◌, ◌++◌, length, false, Bool, Some, None, Option, ◌&&◌, ◌==◌}
+use Rattle.board.specs.Wires.{Edge, steady, started, stopped, rose, fell, Byte, Transfer as Open}
 use Rattle.reader.specs.declared.transfer.Transfer.{Transfer}
-use Rattle.reader.specs.Recording.{edge_at, open_after, clean_shown}
+use Rattle.reader.specs.Recording.{edge_at, open_after}
 use Rattle.reader.specs.Transfers.{address_of}
+
+-- a STOP of an open transfer is clean: its last whole byte has a LOW ninth bit, and one bit came since
+abbrev pub last_acked : List Byte → Bool
+last_acked [] = false
+last_acked (x ∷ bs) = x.low
+
+abbrev pub clean_shown : Open → Bool
+clean_shown t = (length t.bits == 1) && last_acked t.bytes
 
 -- a transfer of which no more than its START has come
 abbrev pub opened : ℕ → Transfer

@@ -7,8 +7,8 @@ use Rattle.reader.specs.declared.kept.Kept.{Kept}
 use Rattle.reader.specs.declared.reader.Reader.{Reader}
 use Rattle.reader.specs.declared.transfer.Transfer.{Transfer}
 use Rattle.reader.specs.Kept.{kept_of, kept_address, kept_next, wires_at}
-use Rattle.reader.specs.Reading.{opened, with_last, going_on, ending, grown}
-use Rattle.reader.specs.Recording.{open_after, clean_shown}
+use Rattle.reader.specs.Reading.{clean_shown, opened, with_last, going_on, ending, grown}
+use Rattle.reader.specs.Recording.{open_after}
 use Rattle.reader.specs.Transfers.{Shows}
 
 -- the last of n samples; before the first both wires count as HIGH

@@ -2,7 +2,7 @@
 use Rattle.std.proofs.Common.{◌≡◌, ℕ, ◌/◌, ◌%◌, Bool, true, false, cond, ◌&&◌, ◌||◌, ltb, leb, ◌⊎◌, refl, ap, ◌∙◌, inl, inr, arith}
 use Rattle.std.proofs.lemmas.Bool.{cases_eq, cases_lt, eq-eqb, ne_eqb, lt-ltb, le-ltb, le-leb, lt-leb, and_from, and_left, and_right, or_right, or_from}
 use Rattle.protection.specs.Lock.{lock_bits, locks_wipers as wipers_in_chip, wp_forbids}
-use Rattle.x9520.specs.Locks.{locks}
+use Rattle.x9520.proofs.Locks.{locks}
 use Rattle.runs.specs.Lock.{bl1, bl0, stored_wiper, locks_cell, locks_wipers, forbidden}
 
 -- the two bits as one number

@@ -98,8 +98,7 @@ module _ {S : Type 0} {ops : Ops S} (b c : Board S) (answer : Told (List ℕ)) (
       let ready = over_ready ds1846_part ds1846_moves w in
       let accepted = accepted_now sits (λ r. Unit {0}) job.0 (ds_accepts l first ds chip low) in
       record {
-        accepts = λ idle. accepted.accepts idle tt;
-        accepts_only = λ took. (accepted.accepts_only took).0;
+        accepted = accepted;
         ready = is.busy ∙ ready;
         holds = λ took. holds_cells sits 8 first ds after (ds_cells l first ds chip low (small 0) (sym job.0 ∙ took));
         brings = λ took.
@@ -124,8 +123,7 @@ module _ {S : Type 0} {ops : Ops S} (b c : Board S) (answer : Told (List ℕ)) (
       let ready = over_ready x9520_part x9520_moves w in
       let accepted = accepted_now sits (λ r. MemoryTakes chip.latches.wel r first ds) job.0 (memory_accepts l chip first ds low (small 0)) in
       record {
-        accepts = accepted.accepts;
-        accepts_only = accepted.accepts_only;
+        accepted = accepted;
         ready = is.busy ∙ ready;
         holds = λ took. holds_cells sits 16 first ds after (memory_cells l chip first ds low (small 0) (sym job.0 ∙ took));
         brings = λ took.
@@ -161,8 +159,7 @@ module _ {S : Type 0} {ops : Ops S} (b c : Board S) (answer : Told (List ℕ)) (
       let ready = over_ready x9520_part x9520_moves w in
       let tap_cut : (p : PowerCut) → ops.tap (cut ops d p).part (sits.number b.part) j ≡ x9520.tap (x9520.cut (over x9520 w) p) 0 j = λ p. (asked sits (cut_after p)).tap j in
       record {
-        accepts = accepted.accepts;
-        accepts_only = accepted.accepts_only;
+        accepted = accepted;
         moves = λ took. subst (Means (taps_of j) v) (sym (tap_then j)) (wiper_moves l chip j store v low in_range (sym done.0 ∙ took) sound);
         others = λ took i other. tap_then i ∙ wiper_others l chip j store v low in_range (sym done.0 ∙ took) i other ∙ sym (was.tap i);
         finish = λ i. is.tap i ∙ wiper_finish w i ∙ sym (tap_then i);

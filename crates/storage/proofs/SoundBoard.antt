@@ -1,5 +1,5 @@
 -- An X9520 in the part of a board is sound in every state of every run since the board was made.
-use Rattle.std.proofs.Common.{◌≡◌, ℕ, zero, suc, ◌<◌, ◌⊎◌, List, [], ◌∷◌, sym, refl, subst, inl, inr, lit<}
+use Rattle.std.proofs.Common.{◌≡◌, ℕ, zero, suc, ◌<◌, ◌⊎◌, List, [], ◌∷◌, length, sym, refl, subst, inl, inr, lit<}
 use Rattle.part.specs.Keeps.{Keeps}
 use Rattle.part.specs.Moves.{Move, starting, moved, after}
 use Rattle.part.specs.Ops.{Ops}
@@ -11,7 +11,7 @@ use Rattle.x9520.specs.State.{factory}
 use Rattle.x9520.specs.declared.state.X9520.{X9520}
 use Rattle.x9520.proofs.Standing.{Stands, powered_stands, step, sound}
 use Rattle.board.specs.Engine.{idle}
-use Rattle.board.specs.Runs.{state, moves_at, Reaches}
+use Rattle.board.specs.Runs.{state, moves_at, call_at, Leads}
 use Rattle.board.specs.declared.board.Board.{Board}
 use Rattle.board.specs.declared.bus.Phase.TheVariants.{Closed}
 use Rattle.board.specs.declared.call.Call.{Call}
@@ -42,11 +42,11 @@ module _ {S : Type 0} (ops : Ops S) (keeps : Keeps ops) (number : S → ℕ) (se
       subst (λ s. Standing (see s)) (sym (steps ops b calls closed n).part)
       (stands_after (moves_at ops b calls n) _ (stands_at b calls closed h n))
 
-  stands_reached : (b c : Board S) → b.bus.phase ≡ Closed → Standing (see b.part) → Reaches ops b c → Standing (see c.part)
-  unfolding Reaches
-  stands_reached b c closed h (calls, n, e) = subst (λ d. Standing (see d.part)) (sym e) (stands_at b calls closed h n)
+  stands_led : (b c : Board S) (calls : List Call) → b.bus.phase ≡ Closed → Standing (see b.part) → Leads ops b calls c → Standing (see c.part)
+  unfolding Leads
+  stands_led b c calls closed h e = subst (λ d. Standing (see d.part)) (sym e) (stands_at b (call_at calls) closed h (length calls))
 
   pub made_sound : (b : Board S) → Made ops b → Sound (see b.part)
-  made_sound b (p, r) =
-      let h = stands_reached (idle (ops.renew p)) b refl (subst Standing (sym (seat.renew p)) (powered_stands factory, lit< tt)) r in
+  made_sound b (p, calls, e) =
+      let h = stands_led (idle (ops.renew p)) b calls refl (subst Standing (sym (seat.renew p)) (powered_stands factory, lit< tt)) e in
       sound (see b.part) h.0 h.1

@@ -13,8 +13,9 @@ use Rattle.ds1846.specs.Chip.{ds1846}
 use Rattle.x9520.specs.declared.state.X9520.{X9520}
 use Rattle.x9520.specs.Chip.{x9520}
 use Rattle.board.specs.declared.board.Board.{Board}
+use Rattle.board.specs.declared.call.Call.{Call}
 use Rattle.board.specs.Engine.{idle, idle_bus, finished, cut}
-use Rattle.board.specs.Runs.{Reaches}
+use Rattle.board.specs.Runs.{Leads}
 use Rattle.board.specs.Samples.{odd}
 use Rattle.runs.specs.Lock.{locks_cell, locks_wipers}
 use Rattle.storage.specs.Cells.{Stands}
@@ -95,7 +96,7 @@ module _ {S : Type 0} (ops : Ops S) where
 
   -- a board some calls after its making
   abbrev pub Made : Board S → Type 0
-  Made b = (p : S) × Reaches ops (idle (ops.renew p)) b
+  Made b = (p : S) × (calls : List Call) × Leads ops (idle (ops.renew p)) calls b
 
   -- Of a write job from the board b to the board c, with its answer; k is the number of the chip written to.
   module _ (b c : Board S) (answer : Told (List ℕ)) (k : ℕ) where
@@ -121,8 +122,7 @@ module _ {S : Type 0} (ops : Ops S) where
 
     -- A DS1846 takes any bytes unless it is busy. Its wipers follow cells F8h, F9h and FAh: wiper 1 the whole byte, the others its low seven bits up to tap 99.
     pub record Ds1846Stores (first : ℕ) (ds : List ℕ) : Type 0 where
-      pub accepts : ops.busy b.part k ≡ false → answer ≡ ok []
-      pub accepts_only : answer ≡ ok [] → ops.busy b.part k ≡ false
+      pub accepted : Accepts (Unit {0})
       pub ready : ops.busy (finished ops c k).part k ≡ false
       pub holds : answer ≡ ok [] → HoldsCells 8 first ds
       pub brings : answer ≡ ok [] → BringsCells 81 8 first ds
@@ -132,8 +132,7 @@ module _ {S : Type 0} (ops : Ops S) where
 
     -- So does the memory of an X9520, if it takes the data bytes. WEL stays set where it was, and no wiper moves; `after` is the chip after the finish.
     pub record MemoryStores (chip after : X9520) (first : ℕ) (ds : List ℕ) : Type 0 where
-      pub accepts : ops.busy b.part k ≡ false → MemoryTakes chip.latches.wel (ops.cell b.part k 259) first ds → answer ≡ ok []
-      pub accepts_only : answer ≡ ok [] → (ops.busy b.part k ≡ false) × MemoryTakes chip.latches.wel (ops.cell b.part k 259) first ds
+      pub accepted : Accepts (MemoryTakes chip.latches.wel (ops.cell b.part k 259) first ds)
       pub ready : ops.busy (finished ops c k).part k ≡ false
       pub holds : answer ≡ ok [] → HoldsCells 16 first ds
       pub brings : answer ≡ ok [] → BringsCells 80 16 first ds
@@ -150,8 +149,7 @@ module _ {S : Type 0} (ops : Ops S) where
     -- of that tap. After a power cut then the wiper stands there again if v was stored, and if not at the tap of the old stored byte.
     -- No other byte changes, WEL stays set, and where v is not stored the chip is ready at once.
     pub record WiperStores (chip after : X9520) (j : ℕ) (store : Bool) (v : ℕ) : Type 0 where
-      pub accepts : ops.busy b.part k ≡ false → DcpTakes chip.latches.wel (ops.cell b.part k 259) → answer ≡ ok []
-      pub accepts_only : answer ≡ ok [] → (ops.busy b.part k ≡ false) × DcpTakes chip.latches.wel (ops.cell b.part k 259)
+      pub accepted : Accepts (DcpTakes chip.latches.wel (ops.cell b.part k 259))
       pub moves : answer ≡ ok [] → Means (taps_of j) v (ops.tap c.part k j)
       pub others : answer ≡ ok [] → (i : ℕ) → (i ≢ j) → ops.tap c.part k i ≡ ops.tap b.part k i
       pub finish : (i : ℕ) → ops.tap (finished ops c k).part k i ≡ ops.tap c.part k i

@@ -20,7 +20,7 @@ use Rattle.x9520.specs.Bytes.{taken_rests}
 use Rattle.x9520.specs.Chip.{x9520, tap_at, latches_stopped}
 use Rattle.x9520.specs.Register.{stored_register, latched}
 use Rattle.x9520.specs.Writing.{Verdict, refused, barred, pages, moves, latches, stores, verdict, dcps_taken, latches_taken}
-use Rattle.x9520.specs.Locks.{locks}
+use Rattle.x9520.proofs.Locks.{locks}
 use Rattle.x9520.proofs.Lock.{Judged, judged, Guarded, guarded_step, locked_rests}
 
 pub record CalmMove (c d : X9520) : Type 0 where

@@ -4,3 +4,4 @@ pub mod Lock
 pub mod Calm
 pub mod Place
 pub mod Waiting
+pub mod Locks

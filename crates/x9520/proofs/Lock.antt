@@ -20,7 +20,7 @@ use Rattle.x9520.specs.declared.state.Mode.TheVariants.{Idle, Aiming, MemoryByte
 use Rattle.x9520.specs.declared.state.Flags.{Flags}
 use Rattle.x9520.specs.declared.state.X9520.{X9520}
 use Rattle.x9520.specs.Chip.{x9520, hears, source, counter_given, flags_at}
-use Rattle.x9520.specs.Locks.{locks}
+use Rattle.x9520.proofs.Locks.{locks}
 use Rattle.x9520.specs.Register.{bit, stored_register}
 use Rattle.x9520.specs.State.{chip, factory, fresh, device, heard_in, mode_after}
 use Rattle.x9520.specs.Writing.{Aim, rejected, at_cell, names, opens, aim_for, aim_in, aim_of, aim_counter, aim_mode, Verdict, refused, barred, pages, moves, latches, stores, memory_verdict, dcp_verdict, armed_verdict, register_verdict, verdict_in, verdict, taken}

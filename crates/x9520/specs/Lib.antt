@@ -5,4 +5,3 @@ pub mod State
 pub mod Writing
 pub mod Keeping
 pub mod Bytes
-pub mod Locks

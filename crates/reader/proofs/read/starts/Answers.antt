@@ -1,5 +1,6 @@
 use Rattle.std.proofs.Common.{◌≡◌, suc, ◌+◌, ◌≤◌, length, Bool, true, false, sym, ap, ◌∙◌, subst, add-one, add-zero, arith}
-use Rattle.reader.specs.Kept.{edge_of, starts, wires_after}
+use Rattle.reader.specs.Kept.{edge_of, starts}
+use Rattle.reader.proofs.After.{wires_after}
 use Rattle.reader.specs.Reading.{rows_after}
 use Rattle.reader.specs.Recording.{edge_at}
 use Rattle.reader.proofs.After.{few_rows, started_at, count_more}

@@ -1,5 +1,5 @@
 use Rattle.std.proofs.Common.{◌≡◌, ◌+◌, ◌-◌, ◌≤◌, length}
-use Rattle.reader.specs.Kept.{wires_after}
+use Rattle.reader.proofs.After.{wires_after}
 use Rattle.reader.specs.Reading.{rows_after}
 use Rattle.reader.proofs.read.starts.Given as goal
 
