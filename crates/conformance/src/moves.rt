@@ -27,6 +27,8 @@ pub enum Moves {
     Questions,
     // Whether parts 0 and 1 of two DS1846 own 51h.
     Owners,
+    // Whether A2h counts as heard in two DS1846, handed over with it heard in the first, and in the second.
+    PairHeard,
     // A pair of an X9520 with all locked and both latches set, and a DS1846 with a byte stored in cell 20h, a write to cell 10h under way
     // and its counter at 11h: the register's stored byte, that of cell 20h and what is under way in the pair, and whether the board
     // made of it is that of fresh chips.
@@ -65,6 +67,11 @@ pub static CASES: &[Case] = &[
         expected: "true, false",
     },
     Case {
+        name: "what a pair has heard is asked of the part that the byte is for: of two that have its address the first",
+        steps: &[Step::Moves(Moves::PairHeard)],
+        expected: "true, false",
+    },
+    Case {
         name: "making a pair changes neither part, and making a board makes both chips fresh, also a busy one",
         steps: &[Step::Moves(Moves::Renewed)],
         expected: "1b, 5a, ab, same",
@@ -90,6 +97,10 @@ impl Moves {
                 let pair = Pair::new(Ds1846::fresh(), Ds1846::fresh());
                 told.tell(pair.owns(0, 0x51));
                 told.tell(pair.owns(1, 0x51));
+            }
+            Moves::PairHeard => {
+                told.tell(Pair::new(staged(), Ds1846::fresh()).heard(0xa2));
+                told.tell(Pair::new(Ds1846::fresh(), staged()).heard(0xa2));
             }
             Moves::Renewed => renewed(told),
         }
