@@ -1,11 +1,13 @@
 // The text of a result's line.
-ghost use Rattle.std.specs.Prelude.{◌≡◌, Some, take, drop, IfOk, string_bytes};
-ghost use Rattle.runner.specs.Lines.{bytes_text, refused_text, line_text};
+ghost use Rattle.std.specs.Prelude.{◌≡◌, ◌≤◌, Some, length, take, drop, IfOk, string_bytes};
+ghost use Rattle.std.specs.Fmt.{WritesOnOk};
+ghost use Rattle.runner.specs.Lines.{hexes, bytes_text, refused_text, line_text};
 ghost use Rattle.runner.specs.Results.{shown};
 
 use super::result::{Done, JobResult, Refused};
+use hex::encode_to_slice;
 use std::alloc::{AllocError, Global};
-use std::fmt;
+use std::{fmt, str};
 
 // A result with the byte list in which its bytes stand.
 #[derive(Clone, Copy)]
@@ -43,6 +45,24 @@ impl fmt::Display for Refused {
 #[derive(Clone, Copy)]
 struct Bytes<'a>(&'a [u8]);
 
+// The digits of so many bytes are written at once: a write for each byte takes several times as long.
+const AT_ONCE: usize = 64;
+
+fn write_digits<W: fmt::Write>(f: &mut fmt::Formatter<W>, bytes: &[u8]) -> fmt::Result
+    requires { length bytes.now ≤ 64 }
+    ensures { WritesOnOk W.write_str_gives f.old result (hexes bytes.now) f.new }
+{
+    let mut digits = [0u8; 2 * AT_ONCE];
+    let text = &mut digits[..2 * bytes.len()];
+    let Ok(()) = encode_to_slice(bytes, text) else {
+        unreachable!();
+    };
+    let Ok(text) = str::from_utf8(text) else {
+        unreachable!();
+    };
+    f.write_str(text)
+}
+
 impl fmt::Display for Bytes<'_> {
     ghost output = { λ bytes. Some (bytes_text bytes.0.now) };
 
@@ -50,8 +70,8 @@ impl fmt::Display for Bytes<'_> {
         if self.0.is_empty() {
             return write!(f, "-");
         }
-        for &byte in self.0 {
-            write!(f, "{byte:02x}")?;
+        for chunk in self.0.chunks(AT_ONCE) {
+            write_digits(f, chunk)?;
         }
         Ok(())
     }
