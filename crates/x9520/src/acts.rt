@@ -162,7 +162,11 @@ impl Part for X9520 {
     }
 
     fn tap(&self, part: usize, n: usize) -> Option<u16> {
-        of_part(part, self.wiper_tap(n), None)
+        // (not by `of_part`, which would search the table of taps for another part too)
+        match part {
+            0 => self.wiper_tap(n),
+            _ => None,
+        }
     }
 
     fn heard(&self, byte: u8) -> bool {
