@@ -9,7 +9,7 @@ length_bytes : length bytes ≡ 100
 unfolding bytes
 length_bytes = length-map-range_with_len byte_of 0 100
 
-byte_at : (t : ℕ) → t < 100 → get_or bytes t 0 ≡ byte_of t
+pub byte_at : (t : ℕ) → t < 100 → get_or bytes t 0 ≡ byte_of t
 unfolding bytes
 byte_at t h = get_or-map-range_with_len byte_of 0 100 t t 0 h (omega arith)
 

@@ -17,7 +17,7 @@ inside : (b : Bool) (w : Option ℕ) (n i v : ℕ) → ltb i n ≡ b → cond b 
 inside true w n i v e h = ltb-true i n e
 inside false w n i v e h = let z : ◌≡◌ {A = ℕ} 0 1 = cc in absurd (omega arith)
 
-write_in : (n : ℕ) (ws : List (Option ℕ)) (i v : ℕ) → place n None ws i ≡ Some v → i < n
+pub write_in : (n : ℕ) (ws : List (Option ℕ)) (i v : ℕ) → place n None ws i ≡ Some v → i < n
 write_in n ws i v h = inside (ltb i n) _ n i v refl h
 
 -- a cell that a byte is staged for, and the others, where the cell n is (t) or is not
@@ -32,8 +32,15 @@ staged_by true m n b i ws e =
     (λ out. staged_here (eqb i n) n m i b (place m None ws i) refl (ltb-true n m e) out (rw out))
 staged_by false m n b i ws e = refl
 
-pub fresh_under_way : (N i : ℕ) → under_way_at {N = N} all_fresh i ≡ None
-fresh_under_way N i = place_none None N i
+module _ (N : ℕ) where
+  pub fresh_byte : (i : ℕ) → byte_at {N = N} all_fresh i ≡ 0
+  fresh_byte i = place_none 0 N N i
+
+  pub fresh_staged : (i : ℕ) → staged_at {N = N} all_fresh i ≡ None
+  fresh_staged i = place_none None N N i
+
+  pub fresh_under_way : (i : ℕ) → under_way_at {N = N} all_fresh i ≡ None
+  fresh_under_way i = place_none None N N i
 
 module _ {N : ℕ} (e : Eeprom N) where
   pub staged_in : (i v : ℕ) → staged_at e i ≡ Some v → i < N
@@ -57,10 +64,10 @@ module _ {N : ℕ} (e : Eeprom N) where
   stages_staged n b i = staged_by (ltb n N) N n b i e.staged refl
 
   pub unstages_staged : (i : ℕ) → staged_at (unstages e) i ≡ None
-  unstages_staged i = place_none None N i
+  unstages_staged i = place_none None N N i
 
   pub begins_staged : (i : ℕ) → staged_at (begins e) i ≡ None
-  begins_staged i = place_none None N i
+  begins_staged i = place_none None N N i
 
   pub begins_under_way : (i : ℕ) → under_way_at (begins e) i ≡ option_or (under_way_at e i) (staged_at e i)
   begins_under_way i = place_table (λ k. option_or (under_way_at e k) (staged_at e k)) None N i (λ out. rw out)
@@ -69,13 +76,13 @@ module _ {N : ℕ} (e : Eeprom N) where
   finishes_byte i = place_table (λ k. unwrap_or (under_way_at e k) (byte_at e k)) 0 N i (λ out. rw out)
 
   pub finishes_under_way : (i : ℕ) → under_way_at (finishes e) i ≡ None
-  finishes_under_way i = place_none None N i
+  finishes_under_way i = place_none None N N i
 
   pub cuts_byte : (m i : ℕ) → byte_at (cuts e m) i ≡ cond (marks m i) (unwrap_or (under_way_at e i) (byte_at e i)) (byte_at e i)
   cuts_byte m i = place_table (λ k. cond (marks m k) (unwrap_or (under_way_at e k) (byte_at e k)) (byte_at e k)) 0 N i (λ out. rw out (same (marks m i)))
 
   pub cuts_staged : (m i : ℕ) → staged_at (cuts e m) i ≡ None
-  cuts_staged m i = place_none None N i
+  cuts_staged m i = place_none None N N i
 
   pub cuts_under_way : (m i : ℕ) → under_way_at (cuts e m) i ≡ None
-  cuts_under_way m i = place_none None N i
+  cuts_under_way m i = place_none None N N i

@@ -1,11 +1,11 @@
 -- What stands at a place of a table, and lists as tables. Assumes nothing.
-use Rattle.std.proofs.Common.{◌≡◌, ℕ, zero, suc, ◌<◌, Bool, true, false, cond, eqb, ltb, List, length, get_or, set, sym, refl, ◌∙◌, subst, ◌+◌, ◌≤◌, ⊎_elim, arith}
+use Rattle.std.proofs.Common.{◌≡◌, ℕ, zero, suc, ◌<◌, Bool, true, false, cond, eqb, ltb, List, length, get_or, set, replicate, sym, refl, ◌∙◌, subst, ◌+◌, ◌≤◌, ⊎_elim, arith}
 use Rattle.std.specs.Array.{IsFromFnResult, IsFromFnResultFrom}
 use Rattle.std.specs.Fn.{Called}
 use denote.Param.Members.{Mut}
 use Rattle.std.proofs.lemmas.List.FromFn.{get_or-map-range_with_len, length-map-range_with_len, fill_by_all}
-use Rattle.std.proofs.lemmas.List.{length-set, get_or-set_same, get_or-set_other, get_or-replicate}
-use Rattle.std.proofs.lemmas.Bool.{ltb-true, lt-ltb, eq-eqb, ne_eqb, cases_eq}
+use Rattle.std.proofs.lemmas.List.{length-set, length-replicate, get_or-set_same, get_or-set_other, get_or-replicate, get_or_past}
+use Rattle.std.proofs.lemmas.Bool.{ltb-true, ltb-false, lt-ltb, eq-eqb, ne_eqb, cases_eq}
 use Rattle.eeprom.specs.Cells.{place, table, all_of}
 
 module _ {A : Type 0} where
@@ -59,11 +59,12 @@ module _ {A : Type 0} where
   pub place_table : (f : ℕ → A) (d : A) (n i : ℕ) → (ltb i n ≡ false → f i ≡ d) → place n d (table n f) i ≡ f i
   place_table f d n i out = at_table (ltb i n) f d n i refl out
 
-  none_at : (t : Bool) (d : A) (n i : ℕ) → ltb i n ≡ t → place n d (all_of n d) i ≡ d
+  none_at : (t s : Bool) (d : A) (n m i : ℕ) → ltb i n ≡ t → ltb i m ≡ s → place n d (all_of m d) i ≡ d
   unfolding all_of
-  none_at true d n i h = rw h (get_or-replicate n i d d (ltb-true i n h))
-  none_at false d n i h = rw h
+  none_at true true d n m i h k = rw h (get_or-replicate m i d d (ltb-true i m k))
+  none_at true false d n m i h k = let e = length-replicate m d in rw h (get_or_past (replicate m d) i d (omega (arith, e, ltb-false i m k)))
+  none_at false s d n m i h k = rw h
 
-  -- the default everywhere
-  pub place_none : (d : A) (n i : ℕ) → place n d (all_of n d) i ≡ d
-  place_none d n i = none_at (ltb i n) d n i refl
+  -- the default everywhere, also where the list is of another length than is asked
+  pub place_none : (d : A) (n m i : ℕ) → place n d (all_of m d) i ≡ d
+  place_none d n m i = none_at (ltb i n) (ltb i m) d n m i refl refl

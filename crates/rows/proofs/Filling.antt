@@ -1,7 +1,7 @@
 -- A list that is filled: nothing at first, then one item after another.
 use Rattle.std.proofs.Common.{◌≡◌, ℕ, ◌+◌, ◌<◌, ◌≤◌, List, [], ◌∷◌, ◌++◌, length, get_or, take, drop, set, sym, refl, ap, ◌∙◌, append_assoc, add-zero, arith, length-append}
 use lib.Seq.{paste}
-use Rattle.std.proofs.lemmas.List.{take-append-drop, length-take-le, length_push, set_at, get_or_at}
+use Rattle.std.proofs.lemmas.List.{take-append-drop, length-take-le, take_at, length_push, set_at, get_or_at}
 use Rattle.std.proofs.lemmas.List.Edits.{paste_all, paste-paste, length-paste, sets-eq}
 use Rattle.rows.specs.Filled.{filled}
 
@@ -34,7 +34,7 @@ module _ {A : Type 0} (items : List A) (n : ℕ) (xs : List A) where
       sets-eq (x ∷ []) (filled items n xs) (n + length xs) (omega arith) ∙ append_assoc (take (n + length xs) (filled items n xs)) (x ∷ []) _ in
       one ∙ filled-filled (x ∷ []) (omega arith)
 
--- the last of the items written, in the place where it stands
+-- the items written in their places: what stands before the rest, and the last of them
 module _ {A : Type 0} (items : List A) (n : ℕ) (xs : List A) (h : n ≤ length items) where
   front : List A
   front = take n items ++ xs
@@ -49,6 +49,11 @@ module _ {A : Type 0} (items : List A) (n : ℕ) (xs : List A) (h : n ≤ length
   place : length front ≡ n + length xs
   unfolding front
   place = length-append (take n items) xs ∙ ap (λ m. m + length xs) (length-take-le n items h)
+
+  -- what stands below the last item filled in
+  pub take-filled : take (n + length xs) (filled items n xs) ≡ take n items ++ xs
+  unfolding front
+  take-filled = let t = take_at front (drop (n + length xs) items) (n + length xs) place in rw append_assoc at t
 
   pub filled_other : (x y : A) → set (filled items n (xs ++ (x ∷ []))) (n + length xs) y ≡ filled items n (xs ++ (y ∷ []))
   filled_other x y =

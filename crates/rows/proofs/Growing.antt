@@ -1,12 +1,13 @@
 -- A row that grows: nothing yet, then one append after another, or one growth after another.
-use Rattle.std.proofs.Common.{◌≡◌, ◌+◌, ◌-◌, ◌<◌, true, false, cond, List, [], ◌∷◌, ◌++◌, length, get_or, set, Some, sym, ap, ◌∙◌, add-zero, arith, ltb-true}
+use Rattle.std.proofs.Common.{◌≡◌, ◌+◌, ◌-◌, ◌<◌, Bool, true, false, cond, List, [], ◌∷◌, ◌++◌, length, get_or, set, Some, sym, refl, ap, ◌∙◌, add-zero, arith, ltb-true}
 use Rattle.std.specs.List.{slice_get}
 use Rattle.std.proofs.lemmas.Bool.{ne_eqb}
 use Rattle.std.proofs.lemmas.List.{length_push, length-append, length-take-le, get_or-take}
 use Rattle.std.proofs.lemmas.Option.{slice_get-get_or}
+use Rattle.refusals.specs.Told.{ok}
 use Rattle.rows.specs.declared.row.Row.{Row}
-use Rattle.rows.specs.Rows.{items_of, row_of, roomy, holds_none, Grown}
-use Rattle.rows.proofs.Filling.{filled_none, filled_more, filled-filled, length-filled, filled_other, filled_last}
+use Rattle.rows.specs.Rows.{items_of, row_of, roomy, appends, holds_none, Grown}
+use Rattle.rows.proofs.Filling.{filled_none, filled_more, filled-filled, length-filled, take-filled, filled_other, filled_last}
 
 module _ {A : Type 0} where
   pub grown_none : (a : Row A) → Grown a [] a
@@ -34,6 +35,10 @@ module _ {A : Type 0} where
       let p = length-append xs ys in
       let f = filled-filled (items_of a) a.count xs ys (omega (arith, g.fits)) in
       record { count = omega (arith, p, g.count, k.count); fits = omega (arith, p, g.count, k.fits); items = cc }
+
+  -- the row is what it was, and then what it grew by
+  pub row_grown : (a b : Row A) (xs : List A) → Grown a xs b → row_of b ≡ row_of a ++ xs
+  row_grown a b xs g = let t = take-filled (items_of a) a.count xs (omega (arith, g.fits)) in cc
 
   -- the item that was appended last is the last of the row
   pub last_grown : (a b : Row A) (xs : List A) (x : A) → Grown a (xs ++ (x ∷ [])) b → slice_get (row_of b) (b.count - 1) ≡ Some x
@@ -66,3 +71,8 @@ module _ {A : Type 0} where
         fits = omega (arith, p, q, g.fits);
         items = j ∙ ap (λ k. set (items_of b) k y) e ∙ ap (λ ys. set ys (a.count + length xs) y) g.items ∙ f;
       }
+
+-- where an append was not refused there was room
+pub took : (room : Bool) → ok tt ≡ appends room → room ≡ true
+took true e = refl
+took false e = cc

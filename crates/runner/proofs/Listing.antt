@@ -1,5 +1,5 @@
 -- What one job adds to the rows of a file.
-use Rattle.std.proofs.Common.{◌≡◌, ℕ, ◌+◌, ◌-◌, ◌<◌, cond, List, [], ◌∷◌, length, set, sym, ap, ◌∙◌, subst, arith}
+use Rattle.std.proofs.Common.{◌≡◌, ℕ, ◌+◌, ◌-◌, ◌<◌, ◌≤◌, cond, List, [], ◌∷◌, length, set, sym, ap, ◌∙◌, subst, arith}
 use Rattle.std.proofs.lemmas.Bool.{lt-ltb}
 use Rattle.refusals.specs.Told.{Told, ok, refused}
 use Rattle.rows.specs.declared.row.Row.{Row}
@@ -19,6 +19,10 @@ seen_same before after (refused r p) u h e = ap (seen_between before.count after
 pub grown_bytes : (before after : Row ℕ) (t : Told (List ℕ)) → Answered before t after → Grown before (bytes_of t) after
 grown_bytes before after (ok xs) h = h
 grown_bytes before after (refused r p) h = subst (Grown before []) (sym h) (grown_none before)
+
+pub count_grows : (before after : Row ℕ) (t : Told (List ℕ)) → Answered before t after → before.count ≤ after.count
+count_grows before after (ok xs) h = omega (arith, h.count)
+count_grows before after (refused r p) h = let e : after.count ≡ before.count = ap (λ r. r.count) h in omega arith
 
 -- an append where there is room
 pub one_more : {A : Type 0} (a c : Row A) (x : A) → a.count < length (items_of a) → c.count ≡ cond (roomy a) (a.count + 1) a.count
