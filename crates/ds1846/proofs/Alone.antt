@@ -1,9 +1,9 @@
 -- What the chip promises besides the laws of every part. Assumes nothing.
-use Rattle.std.proofs.Common.{◌≡◌, ℕ, true, false, sym, ap, ◌∙◌}
+use Rattle.std.proofs.Common.{◌≡◌, ℕ, true, false, refl, sym, ap, ◌∙◌}
 use Rattle.std.proofs.lemmas.Bool.{and_parts, eqb-true, eq-eqb}
 use Rattle.part.specs.declared.levels.Levels.{Levels}
 use Rattle.part.specs.Ops.{is}
-use Rattle.part.specs.Chips.{AlwaysChip}
+use Rattle.part.specs.Chips.{AlwaysChip, StaysSettled}
 use Rattle.eeprom.specs.Cells.{is_busy}
 use Rattle.eeprom.proofs.Moves.{fresh_under_way, free_if}
 use Rattle.eeprom.proofs.OnePart.{always_part}
@@ -22,3 +22,7 @@ taken_heard s a l h =
 
 pub always_ds1846 : AlwaysChip ds1846 fresh
 always_ds1846 = always_part as_part moves (λ s a l x. taken_heard s a l) fresh_free
+
+-- it does not look at levels
+pub settled_ds1846 : StaysSettled ds1846
+settled_ds1846 = record { after_stop = λ s l clean h. refl; after_finish = λ s l q h. refl }

@@ -1,5 +1,5 @@
 ghost use Rattle.std.specs.Prelude.{◌≡◌};
-ghost use Rattle.part.specs.Chips.{AlwaysChip, Renews};
+ghost use Rattle.part.specs.Chips.{AlwaysChip, StaysSettled, Renews};
 ghost use Rattle.part.specs.Seats.{Itself};
 ghost use Rattle.ds1846.specs.Chip.{ds1846, fresh};
 
@@ -29,6 +29,7 @@ impl Ds1846 {
         ensures made { result ≡ fresh }
         ensures seat { Itself ds1846 }
         ensures always { AlwaysChip ds1846 fresh }
+        ensures settled { StaysSettled ds1846 }
         ensures renews { Renews ds1846 fresh }
     {
         Ds1846 {

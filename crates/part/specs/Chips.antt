@@ -1,7 +1,9 @@
--- What a chip promises besides the laws of every part: in each state that its moves can make, and of its renewal in every state.
-use Rattle.std.specs.Prelude.{◌≡◌, ℕ, ◌%◌, true, false, List, Some, None}
+-- What a chip promises besides the laws of every part: in each state that its moves can make; and in every state of levels given again
+-- and of its renewal.
+use Rattle.std.specs.Prelude.{◌≡◌, ℕ, ◌%◌, Bool, true, false, List, Some, None}
 use Rattle.part.specs.declared.levels.Levels.{Levels}
 use Rattle.part.specs.Ops.{Ops}
+use Rattle.part.specs.Keeps.{Settled}
 use Rattle.part.specs.Moves.{Move, after}
 
 module _ {S : Type 0} (ops : Ops S) where
@@ -21,6 +23,11 @@ module _ {S : Type 0} (ops : Ops S) where
   -- whatever is done to it from a state on
   abbrev pub AlwaysChip : S → Type 0
   AlwaysChip s = (moves : List Move) → Chip (after ops s moves)
+
+  -- levels that are known stay known at a STOP at them, and at a finish; of the other moves each part keeps that by law (`Settles`)
+  pub record StaysSettled : Type 0 where
+    pub after_stop : (s : S) (l : Levels) (clean : Bool) → Settled ops l s → Settled ops l (ops.stop s clean l)
+    pub after_finish : (s : S) (l : Levels) (q : ℕ) → Settled ops l s → Settled ops l (ops.finish s q)
 
   -- renewal makes it the fresh chip, whatever it was
   abbrev pub Renews : S → Type 0

@@ -5,3 +5,4 @@ pub mod Calm
 pub mod Place
 pub mod Waiting
 pub mod Locks
+pub mod Settling

@@ -47,10 +47,10 @@ again true true = refl
 again true false = refl
 again false v = refl
 
-flags_again : (a b : Bool) (l : Levels) → flags_at (flags (a && l.v2ro) (b && l.v3ro)) l ≡ flags (a && l.v2ro) (b && l.v3ro)
+pub flags_again : (a b : Bool) (l : Levels) → flags_at (flags (a && l.v2ro) (b && l.v3ro)) l ≡ flags (a && l.v2ro) (b && l.v3ro)
 flags_again a b l i = flags (again a l.v2ro i) (again b l.v3ro i)
 
-abbrev with_flags : X9520 → Flags → X9520
+abbrev pub with_flags : X9520 → Flags → X9520
 with_flags s f = chip s.eeprom s.dcps s.latches f s.counter s.named s.mode
 
 -- the levels come before or after one of these moves: it makes no difference

@@ -1,6 +1,6 @@
 // What an X9520 holds between two calls.
 ghost use Rattle.std.specs.Prelude.{◌≡◌, false};
-ghost use Rattle.part.specs.Chips.{AlwaysChip, Renews};
+ghost use Rattle.part.specs.Chips.{AlwaysChip, StaysSettled, Renews};
 ghost use Rattle.part.specs.Seats.{Itself};
 ghost use Rattle.x9520.specs.Chip.{x9520};
 ghost use Rattle.x9520.specs.Register.{stored_register};
@@ -124,6 +124,7 @@ impl X9520 {
         ensures made { result ≡ fresh }
         ensures seat { Itself x9520 }
         ensures always { AlwaysChip x9520 fresh }
+        ensures settled { StaysSettled x9520 }
         ensures renews { Renews x9520 fresh }
         ensures sound { AlwaysSound fresh }
     {
