@@ -1,6 +1,7 @@
 // A case: what is done to a fresh board, what is asked of it, and the answers that are expected.
 
 use crate::lists::Lists;
+use crate::makers::Makers;
 use crate::moves::Moves;
 use crate::notes::Notes;
 use crate::tables::Table;
@@ -15,6 +16,8 @@ pub enum Step {
     Run(&'static [u8]),
     // Runs a job file into rows with room for so many results and so many bytes.
     RunInto(usize, usize, &'static [u8]),
+    // Runs a job file, and answers the place and the line of the result with this number.
+    LineOf(usize, &'static [u8]),
     // Gives samples; see `Wire` for what is answered.
     Wires(&'static [Wire]),
     // Sets the tool's record of line levels, or answers it.
@@ -29,6 +32,7 @@ pub enum Step {
     Recording(usize, &'static [Wire]),
     // What a job file cannot say.
     Lists(Lists),
+    Makers(Makers),
     Notes(Notes),
     Moves(Moves),
     Table(Table),

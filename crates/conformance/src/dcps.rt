@@ -1,9 +1,9 @@
 // First bytes and reads of the DCPs of the X9520, part 0: docs/RULES.md, "Writing". AEh is their address byte for writing.
 
 use crate::case::Case;
-use crate::case::Step::{Do, Run, Tap, Wires};
-use crate::files::{CUT_LOSING, DISABLE, READ_DCP, WEL};
-use crate::wire::Wire::{Bytes, Start};
+use crate::case::Step::{Cell, Do, Run, Tap, Wires};
+use crate::files::{CUT_LOSING, DISABLE, FINISH_0, READ_DCP, WEL};
+use crate::wire::Wire::{Bytes, Levels, Start, Stop};
 
 pub static CASES: &[Case] = &[
     Case {
@@ -22,6 +22,16 @@ pub static CASES: &[Case] = &[
             Wires(&[Start, Bytes(&[0xae, 0x40]), Start, Bytes(&[0xae, 0x83])]),
         ],
         expected: "ae+, 03-, ae+, 04-, ae+, 40-, ae+, 83-",
+    },
+    Case {
+        name: "with WEL set too first bytes 03h, 04h, 40h, 7Fh, 83h and FFh get no ACK",
+        steps: &[
+            Do(WEL),
+            Run(&[1, 0x57, 2, 0x03, 0x18, 1, 0x57, 2, 0x04, 0x18]),
+            Run(&[1, 0x57, 2, 0x40, 0x18, 1, 0x57, 2, 0x7f, 0x18]),
+            Run(&[1, 0x57, 2, 0x83, 0x18, 1, 0x57, 2, 0xff, 0x18]),
+        ],
+        expected: "1 no 8 1, 2 no 8 1, 1 no 8 1, 2 no 8 1, 1 no 8 1, 2 no 8 1",
     },
     Case {
         name: "a first byte without an ACK names no DCP",
@@ -67,6 +77,21 @@ pub static CASES: &[Case] = &[
             Run(READ_DCP),
         ],
         expected: "1 ok 15",
+    },
+    Case {
+        name: "38h for DCP 1 is not stored with WP HIGH; stored with WP LOW it comes back at power-up, also after another byte",
+        steps: &[
+            Do(WEL),
+            Wires(&[Levels(0x04), Start, Bytes(&[0xae, 0x81, 0x38]), Stop]),
+            Do(&[1, 0x57, 2, 0x81, 0x38]),
+            Do(FINISH_0),
+            Do(&[1, 0x57, 2, 0x01, 0x18]),
+            Tap(0, 1),
+            Do(CUT_LOSING),
+            Tap(0, 1),
+            Cell(0, 257),
+        ],
+        expected: "ae+, 81+, 38-, 24, 25, 38",
     },
     Case {
         name: "without WEL no DCP byte is taken",

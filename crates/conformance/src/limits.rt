@@ -80,6 +80,16 @@ pub static CASES: &[Case] = &[
         expected: "1 no 5 0, 1 no 5 0",
     },
     Case {
+        name: "a part number that is cut off, one of three groups that mark more, an address and bytes that are cut off",
+        steps: &[
+            Run(&[4, 0x82]),
+            Run(&[4, 0x81, 0x81, 0x81]),
+            Run(&[1, 0xff]),
+            Run(&[1, 0x7f, 1]),
+        ],
+        expected: "1 no 5 0, 1 no 7 0, 1 no 5 0, 1 no 5 0",
+    },
+    Case {
         name: "masks 65535 and 65536",
         steps: &[
             Do(X9520_BUSY),

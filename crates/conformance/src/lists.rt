@@ -1,6 +1,6 @@
 // Refusal 9: lists that are too short, and what such a call leaves as it was. docs/RULES.md, "Rows" and "Refusals".
 
-use crate::case::Step::{Do, SameAs};
+use crate::case::Step::{Do, LineOf, SameAs};
 use crate::case::{Case, Step};
 use crate::file_run::NO_RESULT;
 use crate::files::{DS1846_BUSY, FINISH_1};
@@ -29,11 +29,16 @@ pub enum Lists {
     Enough,
     // Two finishes and a read of two bytes, with room for so many results and so many bytes.
     File(usize, usize),
+    // A finish and a read of two bytes, with room for two results and one byte.
+    FreeSlot,
     // A recording of two transfers, and then one of one, with room for one.
     Recorded,
     // A START, a finish of part 2 and a sample 20h in a list of calls, with room for so many answers.
     Calls(usize),
 }
+
+// A finish of part 1, a read of two bytes, and a wait on an address beyond its limit.
+const READ_AND_LIMIT: &[u8] = &[4, 1, 2, 0x51, 1, 0x10, 2, 3, 0x81, 0, 4];
 
 pub static CASES: &[Case] = &[
     Case {
@@ -67,6 +72,25 @@ pub static CASES: &[Case] = &[
             SameAs(DS1846_BUSY),
         ],
         expected: "no 9, 1, same",
+    },
+    Case {
+        name: "refusal 9 of a file leaves the free slots of the byte list",
+        steps: &[
+            Do(DS1846_BUSY),
+            Step::Lists(Lists::FreeSlot),
+            SameAs(DS1846_BUSY),
+        ],
+        expected: "no 9, 0, 07, same",
+    },
+    Case {
+        name: "the result of a number and its line, and of a number that no result has",
+        steps: &[
+            Do(&[1, 0x51, 3, 0x10, 0xab, 0xcd]),
+            LineOf(2, READ_AND_LIMIT),
+            LineOf(3, READ_AND_LIMIT),
+            LineOf(4, READ_AND_LIMIT),
+        ],
+        expected: "1, 2 ok abcd, 2, 3 no 7 7, none",
     },
     Case {
         name: "a file with just the room appends to both rows",
@@ -105,6 +129,10 @@ impl Lists {
             Lists::Enough => enough(board, told),
             Lists::File(results, bytes) => {
                 file(board, results, bytes, told);
+                Ok(())
+            }
+            Lists::FreeSlot => {
+                free_slot(board, told);
                 Ok(())
             }
             Lists::Recorded => {
@@ -164,6 +192,21 @@ fn file<P: Part>(board: &mut Board<P>, results: usize, bytes: usize, told: &mut 
     for &result in result_row.items() {
         let bytes = byte_row.items();
         told.tell(ResultLine { result, bytes });
+    }
+}
+
+fn free_slot<P: Part>(board: &mut Board<P>, told: &mut Told) {
+    let mut result_list = [NO_RESULT; 2];
+    let mut byte_list = [7u8; 1];
+    let mut result_row = Row::new(&mut result_list);
+    let mut byte_row = Row::new(&mut byte_list);
+    let jobs = [4, 1, 2, 0x51, 1, 0x10, 2];
+    let mut lines = levels_of(0);
+    let ran = run_file(board, &mut lines, &jobs, &mut result_row, &mut byte_row);
+    told.tell(Outcome(ran));
+    told.tell(result_row.len());
+    for &byte in &byte_list {
+        told.tell(Stored(byte));
     }
 }
 

@@ -10,6 +10,7 @@ mod jobs;
 mod limits;
 mod lists;
 mod lock;
+mod makers;
 mod memory;
 mod moves;
 mod no_ack;
@@ -52,6 +53,7 @@ fn run_all(rt: &(impl Print + AllocGlobal), tally: &mut Tally) -> anyhow::Result
         jobs::CASES,
         recoveries::CASES,
         limits::CASES,
+        makers::CASES,
         notes::CASES,
         moves::CASES,
         tables::CASES,

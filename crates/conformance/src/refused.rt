@@ -3,13 +3,18 @@
 use crate::case::Case;
 use crate::case::Step::{Cell, Do, Lines, Run, SameAs, Set, Tap, Wires};
 use crate::files::{DS1846_BUSY, FINISH_0, FINISH_1, RECOVER};
-use crate::wire::Wire::{Bytes, Start, Stop};
+use crate::wire::Wire::{Bytes, Raw, Start, Stop};
 
 pub static CASES: &[Case] = &[
     Case {
         name: "refusal 1: samples of which one is bad are not given, nor those before it",
         steps: &[Run(&[7, 3, 0x03, 0x01, 0x23]), SameAs(&[])],
         expected: "1 no 1 0, same",
+    },
+    Case {
+        name: "refusal 1: a sample with bit 5 alone",
+        steps: &[Do(DS1846_BUSY), Wires(&[Raw(&[0x20])]), SameAs(DS1846_BUSY)],
+        expected: "no 1, same",
     },
     Case {
         name: "refusal 2: a finish of a part that is not there",

@@ -2,7 +2,7 @@
 // The DS1846 is at A2h for writing and A3h for reading, the register of the X9520 at A5h for reading.
 
 use crate::case::Case;
-use crate::case::Step::{Do, Run, SameAs, Set, Wires};
+use crate::case::Step::{Cell, Do, Run, SameAs, Set, Wires};
 use crate::files::{BOTH_LATCHES, FINISH_0, FINISH_1, READ_REGISTER, RECOVER};
 use crate::wire::Wire::{Bits, Bytes, Levels, Raw, Start, Stop};
 
@@ -102,6 +102,20 @@ pub static CASES: &[Case] = &[
             Wires(&[Raw(&[0x1a, 0x1b, 0x12]), Levels(0x10), Bytes(&[0xff])]),
         ],
         expected: "1 ok 62, 0, 0, 0, 22-",
+    },
+    Case {
+        name: "a flag goes out with its monitor line, and the cell keeps the byte as it was sent",
+        steps: &[
+            Set(0x18),
+            Do(BOTH_LATCHES),
+            Do(&[1, 0x52, 2, 0xff, 0x63]),
+            Do(FINISH_0),
+            Run(READ_REGISTER),
+            Set(0x10),
+            Run(READ_REGISTER),
+            Cell(0, 259),
+        ],
+        expected: "1 ok 63, 1 ok 23, 63",
     },
     Case {
         name: "a byte that is being sent stays as it was fetched",

@@ -1,7 +1,7 @@
 // The board on which the steps of a case are run.
 
 use crate::case::Step;
-use crate::file_run::run;
+use crate::file_run::{NO_RESULT, run};
 use crate::told::{NineBits, Same, Stored, Told};
 use crate::wire::{Wire, recording};
 use board::board::Board;
@@ -11,8 +11,9 @@ use reader::line::RefusedText;
 use reader::read::read;
 use reader::transfer::Transfer;
 use rows::row::Row;
-use runner::line::ResultLine;
+use runner::line::{ResultLine, line};
 use runner::room::{Room, room_for};
+use runner::run::result_of;
 use std::alloc::{AllocError, Global};
 
 pub const NO_TRANSFER: Transfer = Transfer {
@@ -65,6 +66,7 @@ impl<P: Part + Drop + PartialEq> Setup<P> {
             Step::Do(file) => self.perform(file),
             Step::Run(file) => self.run_into(room_for(file), file),
             Step::RunInto(results, bytes, file) => self.run_into(Room { results, bytes }, file),
+            Step::LineOf(number, file) => self.line_of(number, file),
             Step::Wires(wires) => self.wires(wires),
             Step::Recording(room, wires) => self.recording(room, wires),
             Step::SameAs(file) => self.same_as(file, other),
@@ -72,6 +74,10 @@ impl<P: Part + Drop + PartialEq> Setup<P> {
             Step::Notes(notes) => Ok(notes.perform(&mut self.board, &mut self.told)?),
             Step::Moves(moves) => {
                 moves.perform(&mut self.told);
+                Ok(())
+            }
+            Step::Makers(makers) => {
+                makers.perform(&mut self.told);
                 Ok(())
             }
             Step::Table(table) => {
@@ -116,6 +122,26 @@ impl<P: Part + Drop + PartialEq> Setup<P> {
         for &result in ran.results.iter().take(ran.count) {
             let bytes = &ran.bytes;
             self.told.tell(ResultLine { result, bytes });
+        }
+        Ok(())
+    }
+
+    fn line_of(&mut self, number: usize, file: &[u8]) -> anyhow::Result<()> {
+        let room = room_for(file);
+        let ran = run(self.alloc, &mut self.board, &mut self.lines, room, file)?;
+        let mut list = vec![in self.alloc; NO_RESULT; room.results]?;
+        let mut row = Row::new(&mut list);
+        for &result in ran.results.iter().take(ran.count) {
+            row.append(result)?;
+        }
+        let Some(place) = result_of(&row, number) else {
+            self.told.tell("none");
+            return Ok(());
+        };
+        self.told.tell(place);
+        if let Some(result) = row.get(place) {
+            let text = line(self.alloc, result, &ran.bytes)?;
+            self.told.tell(text.as_str());
         }
         Ok(())
     }

@@ -14,6 +14,7 @@ use x9520::state::X9520;
 pub enum Table {
     Register,
     Locks,
+    Wipers,
     Taps,
     Cells,
 }
@@ -28,6 +29,11 @@ pub static CASES: &[Case] = &[
         name: "memory cells by lock bits: the ACK, what is stored, RWEL after the try, and the ACK of a byte for a DCP",
         steps: &[Step::Table(Table::Locks)],
         expected: "12 of 12",
+    },
+    Case {
+        name: "a byte for a DCP by lock bits: the ACK, and RWEL, which stays set",
+        steps: &[Step::Table(Table::Wipers)],
+        expected: "4 of 4",
     },
     Case {
         name: "bytes for the three DCPs: the tap at once, and the byte read",
@@ -90,6 +96,9 @@ static LOCKED_CELLS: [(u8, u8, bool); 12] = [
     (3, 0x7f, false),
     (3, 0xff, false),
 ];
+
+// Lock bits, and whether a byte for a DCP gets an ACK.
+static LOCKED_WIPERS: [(u8, bool); 4] = [(0, true), (1, false), (2, false), (3, false)];
 
 // A DCP, a byte written to it, the tap where its wiper then stands, and the byte read.
 static DCP_BYTES: [(u8, u8, u16, u8); 17] = [
@@ -184,6 +193,12 @@ fn lock_agrees((lock, cell, acked): (u8, u8, bool)) -> bool {
     taken == acked && armed == acked && holds && moved == (lock == 0)
 }
 
+fn wiper_agrees((lock, acked): (u8, bool)) -> bool {
+    let mut chip = x9520_with(lock, 2);
+    let taken = write(&mut chip, DCPS, 0x02, 0x55, levels_of(0));
+    taken == acked && read(&mut chip, REGISTER + 1) / 4 % 2 == 1
+}
+
 // WP is HIGH, which does not matter for a byte that is not to be stored.
 fn tap_agrees((dcp, byte, tap, reads): (u8, u8, u16, u8)) -> bool {
     let mut chip = x9520_with(0, 1);
@@ -224,6 +239,9 @@ impl Table {
             Table::Locks => LOCKED_CELLS
                 .iter()
                 .for_each(|&row| rows.add(lock_agrees(row))),
+            Table::Wipers => LOCKED_WIPERS
+                .iter()
+                .for_each(|&row| rows.add(wiper_agrees(row))),
             Table::Taps => DCP_BYTES.iter().for_each(|&row| rows.add(tap_agrees(row))),
             Table::Cells => WIPER_CELLS
                 .iter()
