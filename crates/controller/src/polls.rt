@@ -10,7 +10,7 @@ use part::Part;
 use part::levels::Levels;
 use refusals::Refusal;
 
-// Polls until one gets an ACK.
+// Polls until one gets an ACK. The range counts the polls; it indexes nothing.
 pub(super) fn poll<P: Part>(
     board: &mut Board<P>,
     lines: &mut Levels,

@@ -19,7 +19,7 @@ use part::levels::Levels;
 use refusals::Refusal;
 use rows::row::Row;
 
-// Receives bytes into the row, each with an ACK but the last.
+// Receives bytes into the row, each with an ACK but the last. The range counts the bytes; it indexes nothing.
 fn receive_all<P: Part>(
     reading: Reading,
     board: &mut Board<P>,

@@ -1,6 +1,6 @@
 // START, bits, bytes and STOP, sample by sample. Board and levels are two parameters in all of this crate: in one struct each
 // function would have to promise besides that the struct holds the same board still, and the same levels. Which master a function
-// is (`run`) is the contract of each: no two are the same.
+// is (`run`) is the contract of each: no two are the same. A range counts the bits of a byte; it indexes nothing.
 ghost use Rattle.std.specs.Prelude.{◌≡◌};
 ghost use Rattle.controller.specs.Master.{run};
 ghost use Rattle.controller.specs.Bytes.{put, start, stop, send_bit, read_bit, send, receive};
