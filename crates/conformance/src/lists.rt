@@ -1,6 +1,6 @@
 // Refusal 9: lists that are too short, and what such a call leaves as it was. docs/RULES.md, "Rows" and "Refusals".
 
-use crate::case::Step::{Do, LineOf, SameAs};
+use crate::case::Step::{Do, SameAs};
 use crate::case::{Case, Step};
 use crate::file_run::NO_RESULT;
 use crate::files::{DS1846_BUSY, FINISH_1};
@@ -36,9 +36,6 @@ pub enum Lists {
     // A START, a finish of part 2 and a sample 20h in a list of calls, with room for so many answers.
     Calls(usize),
 }
-
-// A finish of part 1, a read of two bytes, and a wait on an address beyond its limit.
-const READ_AND_LIMIT: &[u8] = &[4, 1, 2, 0x51, 1, 0x10, 2, 3, 0x81, 0, 4];
 
 pub static CASES: &[Case] = &[
     Case {
@@ -81,16 +78,6 @@ pub static CASES: &[Case] = &[
             SameAs(DS1846_BUSY),
         ],
         expected: "no 9, 0, 07, same",
-    },
-    Case {
-        name: "the result of a number and its line, and of a number that no result has",
-        steps: &[
-            Do(&[1, 0x51, 3, 0x10, 0xab, 0xcd]),
-            LineOf(2, READ_AND_LIMIT),
-            LineOf(3, READ_AND_LIMIT),
-            LineOf(4, READ_AND_LIMIT),
-        ],
-        expected: "1, 2 ok abcd, 2, 3 no 7 7, none",
     },
     Case {
         name: "a file with just the room appends to both rows",

@@ -22,6 +22,7 @@ mod recordings;
 mod recoveries;
 mod refused;
 mod register;
+mod results;
 mod samples;
 mod setup;
 mod tables;
@@ -42,6 +43,7 @@ fn run_all(rt: &(impl Print + AllocGlobal), tally: &mut Tally) -> anyhow::Result
         refused::CASES,
         no_ack::CASES,
         lists::CASES,
+        results::CASES,
         parts::CASES,
         ds1846_cases::CASES,
         memory::CASES,

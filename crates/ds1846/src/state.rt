@@ -23,8 +23,8 @@ pub struct Ds1846 {
 }
 
 impl Ds1846 {
-    // Besides, that the chip is a part of its own, what it promises in every state that moves can make of it,
-    // and that a renewal makes it this one, whatever it was.
+    // Besides, that the chip is a part of its own, what it promises in every state that moves can make of it, and in any state at
+    // all: levels that it knows it knows after a STOP at them and after a finish, and a renewal makes it this one.
     pub fn fresh() -> Ds1846
         ensures made { result ≡ fresh }
         ensures seat { Itself ds1846 }

@@ -1,5 +1,5 @@
--- What a chip promises besides the laws of every part: in each state that its moves can make; and in every state of levels given again
--- and of its renewal.
+-- What a chip promises besides the laws of every part: in each state that its moves can make; and, of levels given again and of its
+-- renewal, in every state.
 use Rattle.std.specs.Prelude.{◌≡◌, ℕ, ◌%◌, Bool, true, false, List, Some, None}
 use Rattle.part.specs.declared.levels.Levels.{Levels}
 use Rattle.part.specs.Ops.{Ops}

@@ -48,6 +48,7 @@ struct Bytes<'a>(&'a [u8]);
 // The digits of so many bytes are written at once: a write for each byte takes several times as long.
 const AT_ONCE: usize = 64;
 
+// Writes the digits of bytes, of which there are no more than that.
 fn write_digits<W: fmt::Write>(f: &mut fmt::Formatter<W>, bytes: &[u8]) -> fmt::Result
     requires { length bytes.now ≤ 64 }
     ensures { WritesOnOk W.write_str_gives f.old result (hexes bytes.now) f.new }

@@ -118,8 +118,8 @@ impl X9520 {
         false
     }
 
-    // Besides, that the chip is a part of its own, what it promises in every state that moves can make of it,
-    // and that a renewal makes it this one, whatever it was.
+    // Besides, that the chip is a part of its own, what it promises in every state that moves can make of it, and in any state at
+    // all: levels that it knows it knows after a STOP at them and after a finish, and a renewal makes it this one.
     pub fn fresh() -> X9520
         ensures made { result ≡ fresh }
         ensures seat { Itself x9520 }
